@@ -6,9 +6,9 @@ use native.Mathlib.Omega.{arith}
 use Rattle.stamp.specs.declared.civil.Day.{Day}
 use Rattle.stamp.specs.declared.civil.Time.{Time}
 use Rattle.stamp.specs.Calendar.{two, yearLength, monthLength, daysOfYears, daysOfMonths}
-use Rattle.stamp.specs.Stamps.{daysTo, secondsTo, dayText, timeText, Stamped, Real}
+use Rattle.stamp.specs.Stamps.{daysTo, secondsTo, dayText, timeText, shaped, placed, Shape, Stamped, Real, Written}
 use Rattle.stamp.proofs.Sums.{one-place, within-year, within-century}
-use Rattle.stamp.proofs.Texts.{two-same}
+use Rattle.stamp.proofs.Texts.{two-same, all-placed}
 
 -- the same day, or the same time, by its parts
 abbrev SameDay : Day → Day → Type 0
@@ -60,3 +60,18 @@ one-count m n text s t =
 
 pub real : (n : ℕ) (text : List ℕ) → Stamped n text → Real n
 real n text s = (s .started, omega (arith, within-century (s .day)))
+
+-- a text of the right shape, whose date and time were read
+pub stamped : (n : ℕ) (text : List ℕ) (day : Day) (time : Time) → Shape text → placed 0 8 text ≡ dayText day → placed 9 6 text ≡ timeText time → n ≡ 86400 * daysTo day + secondsTo time → (n ≡ 0 → ⊥) → Stamped n text × ((m : ℕ) → Stamped m text → m ≡ n)
+stamped n text day time shape d t e nonzero =
+    let all = all-placed 16 text (shape .long) in
+    let whole : text ≡ shaped (dayText day) (timeText time) = all ∙ (cc (shape .tee, shape .zed)) in
+    let s : Stamped n text = record { day = day; time = time; counted = e; started = omega arith; written = whole } in
+    (s, λ m u. one-count m n text u s)
+
+-- the text that is put together from what was written of a day and of a time
+pub written : (n : ℕ) (date clock : List ℕ) (day : Day) (time : Time) → Real n → date ≡ dayText day → clock ≡ timeText time → n ≡ 86400 * daysTo day + secondsTo time → Written n (shaped (placed 0 8 date) (placed 0 6 clock))
+written n date clock day time r p q e = record {
+  stamp = λ _. record { day = day; time = time; counted = e; started = r .0; written = rw (p, q) };
+  other = λ no-stamp. absurd (no-stamp r);
+}

@@ -12,12 +12,7 @@ use Rattle.std.specs.declared.option.Option.the-variants.{None, Some}
 use Rattle.stamp.specs.declared.civil.Day.{Day}
 use Rattle.stamp.specs.declared.civil.Time.{Time}
 use Rattle.stamp.specs.Calendar.{two}
-use Rattle.stamp.specs.Stamps.{dayText, timeText}
-
--- the n bytes of a text from place i on, one by one
-abbrev pub placed : ℕ → ℕ → List ℕ → List ℕ
-placed i zero xs = []
-placed i (suc n) xs = getD xs i 0 ∷ placed (suc i) n xs
+use Rattle.stamp.specs.Stamps.{dayText, timeText, placed}
 
 placed-drop : (i n : ℕ) (xs : List ℕ) → length xs ≡ i + n → drop i xs ≡ placed i n xs
 placed-drop i zero xs h = drop-of-length-le xs (omega arith)

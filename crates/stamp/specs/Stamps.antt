@@ -1,7 +1,7 @@
 -- A stamp: a count of seconds from 2000-01-01T00:00:00Z on, and its text YYYYMMDDTHHMMSSZ.
-use Prim.Native.Nat.{ℕ, _+_, _-_, _*_, _/_, _%_, _≤_, _<_, max}
+use Prim.Native.Nat.{ℕ, zero, suc, _+_, _-_, _*_, _/_, _%_, _≤_, _<_, max}
 use mathlib.Core.Path.{_≡_}
-use lib.ListN.{replicate}
+use lib.ListN.{length, getD, replicate}
 use mathlib.Core.List.{List, [], _∷_, _++_}
 use Rattle.std.specs.declared.option.Option.{Option}
 use Rattle.std.specs.declared.option.Option.the-variants.{None, Some}
@@ -29,13 +29,33 @@ dayText d = two (d .year / 100) ++ (two (d .year % 100) ++ (two (d .month) ++ tw
 abbrev pub timeText : Time → List ℕ
 timeText t = two (t .hour) ++ (two (t .minute) ++ two (t .second))
 
--- text is the text of the stamp n: both belong to one day and time (84 is T, 90 is Z)
+-- the bytes of a date, a T, the bytes of a time, a Z
+abbrev pub shaped : List ℕ → List ℕ → List ℕ
+shaped date clock = date ++ (84 ∷ (clock ++ (90 ∷ [])))
+
+-- the n bytes of a text from place i on, one by one
+abbrev pub placed : ℕ → ℕ → List ℕ → List ℕ
+placed i zero text = []
+placed i (suc n) text = getD text i 0 ∷ placed (suc i) n text
+
+-- sixteen bytes with T and Z in their places
+pub record Shape (text : List ℕ) : Type 0 where
+  pub long : length text ≡ 16
+  pub tee : getD text 8 0 ≡ 84
+  pub zed : getD text 15 0 ≡ 90
+
+-- how a text of that shape, and no other, comes apart
+abbrev pub Apart : List ℕ → Option (List ℕ × List ℕ) → Type 0
+Apart text None = Shape text → ⊥
+Apart text (Some (date, clock)) = Shape text × (date ≡ placed 0 8 text) × (clock ≡ placed 9 6 text)
+
+-- text is the text of the stamp n: both belong to one day and time
 pub record Stamped (n : ℕ) (text : List ℕ) : Type 0 where
   pub day : Day
   pub time : Time
   pub counted : n ≡ 86400 * daysTo day + secondsTo time
   pub started : 1 ≤ n
-  pub written : text ≡ dayText day ++ (84 ∷ (timeText time ++ (90 ∷ [])))
+  pub written : text ≡ shaped (dayText day) (timeText time)
 
 -- a count that is a stamp: the last is 20991231T235959Z
 abbrev pub Real : ℕ → Type 0

@@ -4,7 +4,7 @@ ghost use mathlib.Core.Path.{_≡_};
 ghost use lib.ListN.{replicate};
 ghost use Rattle.std.specs.Orderings.{Decides, When};
 ghost use Rattle.std.specs.declared.option.Option.the-variants.{Some, None};
-ghost use Rattle.stamp.specs.Stamps.{Stamped, Real, Read, Written, Rewritten, Fresh};
+ghost use Rattle.stamp.specs.Stamps.{Stamped, Real, Apart, Read, Written, Rewritten, Fresh};
 
 mod civil;
 mod days;
@@ -36,13 +36,9 @@ impl Stamp {
     pub fn read(text: &[u8]) -> Option<Stamp>
         ensures { λ r. ⌜ Read (now (text .entry)) r ⌝ }
     {
-        let [
-            c1, c0, y1, y0, m1, m0, d1, d0, b'T', h1, h0, n1, n0, s1, s0, b'Z',
-        ] = text else {
-            return None;
-        };
-        let day = Day::read([*c1, *c0, *y1, *y0, *m1, *m0, *d1, *d0])?;
-        let time = Time::read([*h1, *h0, *n1, *n0, *s1, *s0])?;
+        let (date, clock) = take_apart(text)?;
+        let day = Day::read(date)?;
+        let time = Time::read(clock)?;
         let seconds = DAY * day.count() + time.count();
         if seconds == 0 {
             return None;
@@ -80,6 +76,21 @@ impl Stamp {
         let seconds = clock.seconds.max(previous.seconds + 1);
         Ok(Stamp { seconds })
     }
+}
+
+// The eight digits before the T and the six between T and Z, where a text has the shape of a stamp.
+fn take_apart(text: &[u8]) -> Option<([u8; 8], [u8; 6])>
+    ensures { λ r. ⌜ Apart (now (text .entry)) r ⌝ }
+{
+    let [
+        c1, c0, y1, y0, m1, m0, d1, d0, b'T', h1, h0, n1, n0, s1, s0, b'Z',
+    ] = text else {
+        return None;
+    };
+    Some((
+        [*c1, *c0, *y1, *y0, *m1, *m0, *d1, *d0],
+        [*h1, *h0, *n1, *n0, *s1, *s0],
+    ))
 }
 
 // Reading undoes writing: what is written of a stamp reads as that stamp, and what is written of any other count reads as none.

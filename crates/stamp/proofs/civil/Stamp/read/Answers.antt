@@ -1,8 +1,9 @@
-use borrow.Author.Needs.{needs}
+use mathlib.Core.Path.{_≡_, sym, _∙_}
+use native.Mathlib.Omega.{arith}
+use Rattle.stamp.proofs.Stamps.{stamped}
 use Rattle.stamp.proofs.civil.Stamp.read.Needs as need
 
-pub returns-in-Break-time : need.returns-in-Break-time
-returns-in-Break-time c = let h = c .in-84 in let k = c .in-84 .in-84·own in let j = c .in-84 .in-84·own′ in let i = c .in-Break-time .ensures tt in ?
-
 pub returns : need.returns
-returns c = let i = c .in-Continue-day .ensures tt in ?
+returns c =
+    let apart = c .in-Continue-date .ensures tt in
+    stamped _ (c .args .text .now) (c .in-Continue-day .day) (c .in-Continue-time .time) (apart .0) (sym (apart .1) ∙ c .in-Continue-day .ensures tt) (sym (apart .2) ∙ c .in-Continue-time .ensures tt) (omega arith) (c .if-seconds-eq0 .left)

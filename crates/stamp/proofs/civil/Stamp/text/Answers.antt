@@ -1,6 +1,7 @@
-use borrow.Author.Needs.{needs}
+use native.Mathlib.Omega.{arith}
+use Rattle.stamp.proofs.Stamps.{written}
 use Rattle.stamp.proofs.civil.Stamp.text.Needs as need
 
--- src/lib.rt:54:5
 pub returns : need.returns
-returns c = ?
+returns c =
+    written (c .args .self .seconds) (c .text .result) (c .text-2 .result) (c .after-day .result) (c .after-time .result) (omega arith, omega arith) (c .text .ensures) (c .text-2 .ensures) (omega arith)

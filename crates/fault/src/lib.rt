@@ -165,7 +165,7 @@ impl Fault {
     }
 }
 
-impl fmt::Display for Fault as FaultDisplay {
+pub impl fmt::Display for Fault as FaultDisplay {
     ghost shown = { λ f. Some (printed f) };
 
     fn fmt<W: fmt::Write>(&self, f: &mut fmt::Formatter<W>) -> fmt::Result {

@@ -19,6 +19,8 @@ use civil::Time;
 use fault::Cause;
 use fault::Fault;
 use fault::Layer;
+use std::fmt;
+use std::str;
 use times::DAY;
 
 // The last stamp, 20991231T235959Z.
@@ -75,6 +77,17 @@ impl Stamp {
         }
         let seconds = clock.seconds.max(previous.seconds + 1);
         Ok(Stamp { seconds })
+    }
+}
+
+// A stamp is shown as its text.
+pub impl fmt::Display for Stamp as StampDisplay {
+    fn fmt<W: fmt::Write>(&self, f: &mut fmt::Formatter<W>) -> fmt::Result {
+        let text = self.text();
+        match str::from_utf8(&text) {
+            Ok(shown) => f.write_str(shown),
+            Err(_) => Err(fmt::Error),
+        }
     }
 }
 

@@ -49,7 +49,7 @@ impl Cause {
     }
 
     // The layer that this cause belongs to: its own, or for Range and Short the one that tested.
-    pub fn layer(self, tester: Layer) -> Layer
+    fn layer(self, tester: Layer) -> Layer
         ensures { λ r. ⌜ r ≡ layerFor tester self ⌝ }
     {
         match self {
@@ -64,7 +64,7 @@ impl Cause {
     }
 
     // What went wrong, in words for a fitter.
-    pub fn words(self) -> &'static str
+    fn words(self) -> &'static str
         ensures { λ r. ⌜ now r ≡ wording self ⌝ }
     {
         match self {

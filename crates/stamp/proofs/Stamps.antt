@@ -3,10 +3,14 @@ use Prim.Native.Nat.{ℕ, _+_, _*_, _/_, _%_, _-_, _≤_, _<_}
 use mathlib.Core.Path.{_≡_, refl, sym, ap, _∙_}
 use mathlib.Core.List.{List, [], _∷_, _++_}
 use native.Mathlib.Omega.{arith}
+use Rattle.std.specs.Options.{Cases as BySome}
+use Rattle.std.specs.declared.option.Option.{Option}
+use Rattle.std.specs.declared.option.Option.the-variants.{None, Some}
+use Rattle.stamp.specs.declared.civil.Stamp.{Stamp}
 use Rattle.stamp.specs.declared.civil.Day.{Day}
 use Rattle.stamp.specs.declared.civil.Time.{Time}
 use Rattle.stamp.specs.Calendar.{two, yearLength, monthLength, daysOfYears, daysOfMonths}
-use Rattle.stamp.specs.Stamps.{daysTo, secondsTo, dayText, timeText, shaped, placed, Shape, Stamped, Real, Written}
+use Rattle.stamp.specs.Stamps.{daysTo, secondsTo, secondsAt, dayText, timeText, shaped, placed, Shape, Stamped, Real, Read, Written}
 use Rattle.stamp.proofs.Sums.{one-place, within-year, within-century}
 use Rattle.stamp.proofs.Texts.{two-same, all-placed}
 
@@ -46,32 +50,40 @@ one-text n text other s t =
     let day = day-by-count (s .day) (t .day) days in
     cc
 
-pub one-count : (m n : ℕ) (text : List ℕ) → Stamped m text → Stamped n text → m ≡ n
-one-count m n text s t =
-    let a : two (s .day .year / 100) ≡ two (t .day .year / 100) = cc in
-    let b : two (s .day .year % 100) ≡ two (t .day .year % 100) = cc in
-    let year : s .day .year ≡ t .day .year = omega (arith, two-same _ _ a, two-same _ _ b) in
-    let month : s .day .month ≡ t .day .month = two-same _ _ (cc) in
-    let day : s .day .day ≡ t .day .day = two-same _ _ (cc) in
-    let hour : s .time .hour ≡ t .time .hour = two-same _ _ (cc) in
-    let minute : s .time .minute ≡ t .time .minute = two-same _ _ (cc) in
-    let second : s .time .second ≡ t .time .second = two-same _ _ (cc) in
+same-count : (d e : Day) (t u : Time) → shaped (dayText d) (timeText t) ≡ shaped (dayText e) (timeText u) → secondsAt d t ≡ secondsAt e u
+same-count d e t u w =
+    let a : two (d .year / 100) ≡ two (e .year / 100) = cc in
+    let b : two (d .year % 100) ≡ two (e .year % 100) = cc in
+    let year : d .year ≡ e .year = omega (arith, two-same _ _ a, two-same _ _ b) in
+    let month : d .month ≡ e .month = two-same _ _ (cc) in
+    let day : d .day ≡ e .day = two-same _ _ (cc) in
+    let hour : t .hour ≡ u .hour = two-same _ _ (cc) in
+    let minute : t .minute ≡ u .minute = two-same _ _ (cc) in
+    let second : t .second ≡ u .second = two-same _ _ (cc) in
     cc
+
+pub one-count : (m n : ℕ) (text : List ℕ) → Stamped m text → Stamped n text → m ≡ n
+one-count m n text s t = s .counted ∙ same-count (s .day) (t .day) (s .time) (t .time) (sym (s .written) ∙ t .written) ∙ sym (t .counted)
 
 pub real : (n : ℕ) (text : List ℕ) → Stamped n text → Real n
 real n text s = (s .started, omega (arith, within-century (s .day)))
 
+read-at : (text : List ℕ) (day : Day) (time : Time) (o : Option Stamp) → text ≡ shaped (dayText day) (timeText time) → BySome o (secondsAt day time ≡ 0) (λ s. (s .seconds ≡ secondsAt day time) × (1 ≤ s .seconds)) → Read text o
+read-at text day time None whole none = λ n u. omega (arith, same-count (u .day) day (u .time) time (sym (u .written) ∙ whole))
+read-at text day time (Some s) whole e =
+    let it : Stamped (s .seconds) text = record { day = day; time = time; counted = e .0; started = e .1; written = whole } in
+    record { real = real _ _ it; stamped = it; one-count = λ m u. one-count m _ text u it; one-text = λ other u. one-text _ other text u it }
+
 -- a text of the right shape, whose date and time were read
-pub stamped : (n : ℕ) (text : List ℕ) (day : Day) (time : Time) → Shape text → placed 0 8 text ≡ dayText day → placed 9 6 text ≡ timeText time → n ≡ 86400 * daysTo day + secondsTo time → (n ≡ 0 → ⊥) → Stamped n text × ((m : ℕ) → Stamped m text → m ≡ n)
-stamped n text day time shape d t e nonzero =
+pub matched : (text : List ℕ) (day : Day) (time : Time) (o : Option Stamp) → Shape text → placed 0 8 text ≡ dayText day → placed 9 6 text ≡ timeText time → BySome o (secondsAt day time ≡ 0) (λ s. (s .seconds ≡ secondsAt day time) × (1 ≤ s .seconds)) → Read text o
+matched text day time o shape d t =
     let all = all-placed 16 text (shape .long) in
     let whole : text ≡ shaped (dayText day) (timeText time) = all ∙ (cc (shape .tee, shape .zed)) in
-    let s : Stamped n text = record { day = day; time = time; counted = e; started = omega arith; written = whole } in
-    (s, λ m u. one-count m n text u s)
+    read-at text day time o whole
 
 -- the text that is put together from what was written of a day and of a time
-pub written : (n : ℕ) (date clock : List ℕ) (day : Day) (time : Time) → Real n → date ≡ dayText day → clock ≡ timeText time → n ≡ 86400 * daysTo day + secondsTo time → Written n (shaped (placed 0 8 date) (placed 0 6 clock))
+pub written : (n : ℕ) (date clock : List ℕ) (day : Day) (time : Time) → Real n → date ≡ dayText day → clock ≡ timeText time → secondsAt day time ≡ n → Written n (shaped (placed 0 8 date) (placed 0 6 clock))
 written n date clock day time r p q e = record {
-  stamp = λ _. record { day = day; time = time; counted = e; started = r .0; written = rw (p, q) };
+  stamp = λ _. record { day = day; time = time; counted = sym e; started = r .0; written = rw (p, q) };
   other = λ no-stamp. absurd (no-stamp r);
 }

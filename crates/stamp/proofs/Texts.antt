@@ -28,12 +28,12 @@ two-same a b e =
     omega (arith, div-add-mod a 10, div-add-mod b 10)
 
 pub read-day : (digits : List ℕ) (o : Option Day) (century year month day : ℕ) → length digits ≡ 8 → year < 100
-  → getD digits 0 0 ∷ (getD digits 1 0 ∷ []) ≡ two century
-  → getD digits 2 0 ∷ (getD digits 3 0 ∷ []) ≡ two year
-  → getD digits 4 0 ∷ (getD digits 5 0 ∷ []) ≡ two month
-  → getD digits 6 0 ∷ (getD digits 7 0 ∷ []) ≡ two day
-  → BySome o ((d : Day) → d .year ≡ 100 * century + year → d .month ≡ month → d .day ≡ day → ⊥) (λ d. (d .year ≡ 100 * century + year) × (d .month ≡ month) × (d .day ≡ day))
-  → BySome o ((d : Day) → digits ≡ dayText d → ⊥) (λ d. digits ≡ dayText d)
+    → getD digits 0 0 ∷ (getD digits 1 0 ∷ []) ≡ two century
+    → getD digits 2 0 ∷ (getD digits 3 0 ∷ []) ≡ two year
+    → getD digits 4 0 ∷ (getD digits 5 0 ∷ []) ≡ two month
+    → getD digits 6 0 ∷ (getD digits 7 0 ∷ []) ≡ two day
+    → BySome o ((d : Day) → d .year ≡ 100 * century + year → d .month ≡ month → d .day ≡ day → ⊥) (λ d. (d .year ≡ 100 * century + year) × (d .month ≡ month) × (d .day ≡ day))
+    → BySome o ((d : Day) → digits ≡ dayText d → ⊥) (λ d. digits ≡ dayText d)
 read-day digits None century year month day l b p q r s n = λ d e.
     let w = all-placed 8 digits l in
     let c1 : two (d .year / 100) ≡ two century = cc in
@@ -48,11 +48,11 @@ read-day digits (Some d) century year month day l b p q r s n =
     cc
 
 pub read-time : (digits : List ℕ) (o : Option Time) (hour minute second : ℕ) → length digits ≡ 6
-  → getD digits 0 0 ∷ (getD digits 1 0 ∷ []) ≡ two hour
-  → getD digits 2 0 ∷ (getD digits 3 0 ∷ []) ≡ two minute
-  → getD digits 4 0 ∷ (getD digits 5 0 ∷ []) ≡ two second
-  → BySome o ((t : Time) → t .hour ≡ hour → t .minute ≡ minute → t .second ≡ second → ⊥) (λ t. (t .hour ≡ hour) × (t .minute ≡ minute) × (t .second ≡ second))
-  → BySome o ((t : Time) → digits ≡ timeText t → ⊥) (λ t. digits ≡ timeText t)
+    → getD digits 0 0 ∷ (getD digits 1 0 ∷ []) ≡ two hour
+    → getD digits 2 0 ∷ (getD digits 3 0 ∷ []) ≡ two minute
+    → getD digits 4 0 ∷ (getD digits 5 0 ∷ []) ≡ two second
+    → BySome o ((t : Time) → t .hour ≡ hour → t .minute ≡ minute → t .second ≡ second → ⊥) (λ t. (t .hour ≡ hour) × (t .minute ≡ minute) × (t .second ≡ second))
+    → BySome o ((t : Time) → digits ≡ timeText t → ⊥) (λ t. digits ≡ timeText t)
 read-time digits None hour minute second l p q r n = λ t e.
     let w = all-placed 6 digits l in
     let c1 : two (t .hour) ≡ two hour = cc in

@@ -23,6 +23,10 @@ daysTo d = daysOfYears (d .year - 2000) + (daysOfMonths (d .year) (d .month - 1)
 abbrev pub secondsTo : Time → ℕ
 secondsTo t = 3600 * t .hour + (60 * t .minute + t .second)
 
+-- the seconds from 2000-01-01T00:00:00Z to a day and time
+abbrev pub secondsAt : Day → Time → ℕ
+secondsAt d t = 86400 * daysTo d + secondsTo t
+
 abbrev pub dayText : Day → List ℕ
 dayText d = two (d .year / 100) ++ (two (d .year % 100) ++ (two (d .month) ++ two (d .day)))
 
@@ -53,7 +57,7 @@ Apart text (Some (date, clock)) = Shape text × (date ≡ placed 0 8 text) × (c
 pub record Stamped (n : ℕ) (text : List ℕ) : Type 0 where
   pub day : Day
   pub time : Time
-  pub counted : n ≡ 86400 * daysTo day + secondsTo time
+  pub counted : n ≡ secondsAt day time
   pub started : 1 ≤ n
   pub written : text ≡ shaped (dayText day) (timeText time)
 
@@ -61,10 +65,17 @@ pub record Stamped (n : ℕ) (text : List ℕ) : Type 0 where
 abbrev pub Real : ℕ → Type 0
 Real n = (1 ≤ n) × (n ≤ 3155759999)
 
+-- the stamp n and the text belong to each other alone
+pub record Matched (n : ℕ) (text : List ℕ) : Type 0 where
+  pub real : Real n
+  pub stamped : Stamped n text
+  pub one-count : (m : ℕ) → Stamped m text → m ≡ n
+  pub one-text : (other : List ℕ) → Stamped n other → other ≡ text
+
 -- what reading a text answers: the one stamp that has it, or none where no stamp has it
 abbrev pub Read : List ℕ → Option Stamp → Type 0
 Read text None = (n : ℕ) → Stamped n text → ⊥
-Read text (Some s) = Stamped (s .seconds) text × ((n : ℕ) → Stamped n text → n ≡ s .seconds)
+Read text (Some s) = Matched (s .seconds) text
 
 -- what writing a count answers: a stamp's text, and `0` sixteen times for any other count
 pub record Written (n : ℕ) (text : List ℕ) : Type 0 where

@@ -89,11 +89,19 @@ impl Day {
         for month in 1..12 {
             let length = month_length(year, month);
             if left < length {
-                return Day { year, month, day: left + 1 };
+                return Day {
+                    year,
+                    month,
+                    day: left + 1,
+                };
             }
             left -= length;
         }
-        Day { year, month: 12, day: left + 1 }
+        Day {
+            year,
+            month: 12,
+            day: left + 1,
+        }
     }
 
     // The day that eight digits write, or none.

@@ -2,19 +2,20 @@
 ghost use Prim.Native.Nat.{ℕ, _+_, _≤_, _<_, max};
 ghost use mathlib.Core.Path.{_≡_};
 ghost use lib.ListN.{replicate};
-ghost use Rattle.std.specs.Orderings.{Decides, When};
+ghost use Rattle.std.specs.Options.{Cases as BySome};
+ghost use Rattle.std.specs.Orderings.{Decides};
 ghost use Rattle.std.specs.declared.option.Option.the-variants.{Some, None};
-ghost use Rattle.stamp.specs.Stamps.{Stamped, Real, Apart, Read, Written, Rewritten, Fresh};
+ghost use Rattle.stamp.specs.Stamps.{Stamped, Real, Apart, secondsAt, Read, Written, Rewritten, Fresh};
 
 mod civil;
 mod days;
 mod digits;
 mod times;
 
+use civil::Day;
 pub use civil::Stamp;
 pub use civil::StampDebug;
 pub use civil::StampPartialEq;
-use civil::Day;
 use civil::Time;
 use fault::Cause;
 use fault::Fault;
@@ -41,6 +42,13 @@ impl Stamp {
         let (date, clock) = take_apart(text)?;
         let day = Day::read(date)?;
         let time = Time::read(clock)?;
+        Stamp::at(day, time)
+    }
+
+    // The stamp of a day and a time, which the very first second has not.
+    fn at(day: Day, time: Time) -> Option<Stamp>
+        ensures { λ r. ⌜ BySome r (secondsAt day time ≡ 0) (λ s. (s .seconds ≡ secondsAt day time) × (1 ≤ s .seconds)) ⌝ }
+    {
         let seconds = DAY * day.count() + time.count();
         if seconds == 0 {
             return None;
@@ -55,13 +63,38 @@ impl Stamp {
         if !self.is_real() {
             return [b'0'; 16];
         }
-        let day = Day::after(self.seconds / DAY);
-        let time = Time::after(self.seconds % DAY);
+        let (day, time) = self.civil();
         let [c1, c0, y1, y0, m1, m0, d1, d0] = day.text();
         let [h1, h0, n1, n0, s1, s0] = time.text();
         [
-            c1, c0, y1, y0, m1, m0, d1, d0, b'T', h1, h0, n1, n0, s1, s0, b'Z',
+            c1,
+            c0,
+            y1,
+            y0,
+            m1,
+            m0,
+            d1,
+            d0,
+            b'T',
+            h1,
+            h0,
+            n1,
+            n0,
+            s1,
+            s0,
+            b'Z',
         ]
+    }
+
+    // The day and the time of this stamp.
+    fn civil(self) -> (Day, Time)
+        requires { ⌜ Real (self .seconds) ⌝ }
+        ensures { λ r. ⌜ secondsAt (r .0) (r .1) ≡ self .seconds ⌝ }
+    {
+        (
+            Day::after(self.seconds / DAY),
+            Time::after(self.seconds % DAY),
+        )
     }
 
     // A fresh stamp: the greater of the clock and the previous stamp plus 1, where 0 stands for no previous stamp.
@@ -96,8 +129,24 @@ fn take_apart(text: &[u8]) -> Option<([u8; 8], [u8; 6])>
     ensures { λ r. ⌜ Apart (now (text .entry)) r ⌝ }
 {
     let [
-        c1, c0, y1, y0, m1, m0, d1, d0, b'T', h1, h0, n1, n0, s1, s0, b'Z',
-    ] = text else {
+        c1,
+        c0,
+        y1,
+        y0,
+        m1,
+        m0,
+        d1,
+        d0,
+        b'T',
+        h1,
+        h0,
+        n1,
+        n0,
+        s1,
+        s0,
+        b'Z',
+    ] = text
+    else {
         return None;
     };
     Some((

@@ -19,7 +19,11 @@ impl Time {
         if hour > 23 || minute > 59 || second > 59 {
             return None;
         }
-        Some(Time { hour, minute, second })
+        Some(Time {
+            hour,
+            minute,
+            second,
+        })
     }
 
     // The seconds from midnight to this time.

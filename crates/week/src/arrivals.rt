@@ -33,7 +33,10 @@ pub fn read_revision(arrival: Arrival) -> Result<Revision, Fault>
     let Some(dtstamp) = Stamp::read(arrival.dtstamp.as_bytes()) else {
         return Err(damaged.wanting(Some(Property::Dtstamp)));
     };
-    Ok(Revision { sequence: Sequence { number }, dtstamp })
+    Ok(Revision {
+        sequence: Sequence { number },
+        dtstamp,
+    })
 }
 
 // What a door holds after a revision came: the newer of the two, and any where none was held.

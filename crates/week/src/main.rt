@@ -7,20 +7,35 @@ use arrivals::read_revision;
 use arrivals::take;
 use fault::FaultDisplay;
 use rank::Revision;
+use rank::RevisionPartialEq;
 use stamp::StampDisplay;
 use std::io;
-use rank::RevisionPartialEq;
 
 // The second revision overtook the first, which comes twice; one arrival between them has a day that is not on the calendar.
 const THURSDAY: [Arrival; 4] = [
-    Arrival { sequence: "1", dtstamp: "20250129T120000Z" },
-    Arrival { sequence: "0", dtstamp: "20250127T100000Z" },
-    Arrival { sequence: "1", dtstamp: "20250229T120000Z" },
-    Arrival { sequence: "0", dtstamp: "20250127T100000Z" },
+    Arrival {
+        sequence: "1",
+        dtstamp: "20250129T120000Z",
+    },
+    Arrival {
+        sequence: "0",
+        dtstamp: "20250127T100000Z",
+    },
+    Arrival {
+        sequence: "1",
+        dtstamp: "20250229T120000Z",
+    },
+    Arrival {
+        sequence: "0",
+        dtstamp: "20250127T100000Z",
+    },
 ];
 
 fn main(rt: LibcRuntime) -> io::Result<()> {
-    println!(rt, "Thursday at door 2: revisions of meeting 7 as they came in")?;
+    println!(
+        rt,
+        "Thursday at door 2: revisions of meeting 7 as they came in"
+    )?;
     let mut held: Option<Revision> = None;
     for (i, arrival) in THURSDAY.iter().enumerate() {
         held = report(&rt, i + 1, *arrival, held)?;
@@ -32,7 +47,12 @@ fn main(rt: LibcRuntime) -> io::Result<()> {
 }
 
 // Tells of one arrival, and what is held after it.
-fn report(rt: &LibcRuntime, line: usize, arrival: Arrival, held: Option<Revision>) -> io::Result<Option<Revision>> {
+fn report(
+    rt: &LibcRuntime,
+    line: usize,
+    arrival: Arrival,
+    held: Option<Revision>,
+) -> io::Result<Option<Revision>> {
     let sequence = arrival.sequence;
     let dtstamp = arrival.dtstamp;
     print!(rt, "{line}. SEQUENCE {sequence}, DTSTAMP {dtstamp}: ")?;
@@ -43,7 +63,11 @@ fn report(rt: &LibcRuntime, line: usize, arrival: Arrival, held: Option<Revision
         }
         Ok(came) => {
             let kept = take(held, came);
-            let verdict = if kept == came { "taken" } else { "older than what is held, not taken" };
+            let verdict = if kept == came {
+                "taken"
+            } else {
+                "older than what is held, not taken"
+            };
             println!(rt, "{verdict}")?;
             Ok(Some(kept))
         }
@@ -53,5 +77,8 @@ fn report(rt: &LibcRuntime, line: usize, arrival: Arrival, held: Option<Revision
 fn print_held(rt: &LibcRuntime, revision: Revision) -> io::Result<()> {
     let sequence = revision.sequence.number;
     let dtstamp = revision.dtstamp;
-    println!(rt, "held at the end: SEQUENCE {sequence}, DTSTAMP {dtstamp}")
+    println!(
+        rt,
+        "held at the end: SEQUENCE {sequence}, DTSTAMP {dtstamp}"
+    )
 }

@@ -80,3 +80,10 @@ pub struct Fault {
     pub line: u32,
     pub property: Option<Property>,
 }
+
+// Why a thing that takes its memory when it is made was not made: a value was refused, or memory is short.
+#[derive(Clone, Copy, PartialEq, Eq, Debug)]
+pub enum NotMade {
+    Refused(Fault),
+    Memory,
+}

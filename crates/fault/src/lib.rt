@@ -1,6 +1,7 @@
 // Faults: every refusal in the product is one value of one type, carried by `?` from where it was found to whoever prints it.
 ghost use mathlib.Core.Path.{_≡_};
 ghost use Rattle.std.specs.declared.option.Option.the-variants.{Some};
+ghost use Rattle.fault.specs.declared.kinds.NotMade.the-variants.{Memory};
 ghost use Rattle.fault.specs.Numbers.{causeNumber, layerNumber, propertyNumber, layerFor, told, atLine, wanting};
 ghost use Rattle.fault.specs.Words.{wording, printed, propertyOr0};
 
@@ -15,9 +16,13 @@ pub use kinds::FaultPartialEq;
 pub use kinds::Layer;
 pub use kinds::LayerDebug;
 pub use kinds::LayerPartialEq;
+pub use kinds::NotMade;
+pub use kinds::NotMadeDebug;
+pub use kinds::NotMadePartialEq;
 pub use kinds::Property;
 pub use kinds::PropertyDebug;
 pub use kinds::PropertyPartialEq;
+use std::alloc::AllocError;
 use std::fmt;
 
 impl Cause {
@@ -175,5 +180,13 @@ pub impl fmt::Display for Fault as FaultDisplay {
         let property = self.property_number();
         let words = self.cause.words();
         write!(f, "fault {number} {layer} {line} {property}: {words}")
+    }
+}
+
+pub impl From<AllocError> for NotMade as NotMadeFromAlloc {
+    ghost converts = { λ _ r. r ≡ Memory };
+
+    fn from(_e: AllocError) -> NotMade {
+        NotMade::Memory
     }
 }

@@ -1,0 +1,3 @@
+pub mod Mail
+pub mod Posts
+pub mod Queues

@@ -1,0 +1,47 @@
+// Where a letter goes, and a letter that waits.
+ghost use Prim.Native.Nat.{_≤_};
+ghost use mathlib.Core.Path.{_≡_};
+ghost use lib.ListN.{length};
+ghost use Rattle.std.specs.Of.Vec.{vec-len, vec-cap};
+
+// The end of an address: 0 is the site, 1 to 8 are the doors. Other numbers are no address, and are refused where one is asked for.
+#[derive(Clone, Copy, PartialEq, Eq, Debug)]
+pub struct Address {
+    pub number: u8,
+}
+
+// A place that holds one letter.
+#[derive(Clone, Copy)]
+pub struct Slot {
+    pub to: u8,
+    pub len: usize,
+    pub bytes: [u8; 768],
+    ghost whole: { length bytes ≡ 768 },
+    ghost address: { to ≤ 8 },
+    ghost some: { (1 ≤ len) × (len ≤ 768) },
+}
+
+// Letters in the order in which they came, and room for a fixed number of them.
+#[derive(Drop)]
+pub struct Row {
+    pub slots: Vec<Slot>,
+    pub room: usize,
+    ghost size: { (1 ≤ room) × (room ≤ 64) },
+    ghost held: { vec-len slots ≤ room },
+    ghost reserved: { room ≤ vec-cap slots },
+}
+
+// A carrier that keeps its letters in a row, and hands them out in an order of its own.
+#[derive(Drop)]
+pub struct Queue<O> {
+    pub row: Row,
+    pub order: O,
+}
+
+// The oldest letter for an address goes first.
+#[derive(Clone, Copy, Debug)]
+pub struct Oldest;
+
+// The latest letter for an address goes first.
+#[derive(Clone, Copy, Debug)]
+pub struct Latest;

@@ -1,2 +1,4 @@
 pub mod Counting
+pub mod Echoes
+pub mod Fating
 pub mod Places

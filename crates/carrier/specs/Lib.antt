@@ -1,3 +1,4 @@
+pub mod Fates
 pub mod Mail
 pub mod Posts
 pub mod Queues

@@ -2,7 +2,7 @@
 use Prim.Native.Nat.{ℕ, _≤_, _<_}
 use mathlib.Core.Path.{_≡_}
 use mathlib.Core.Bool.{true}
-use mathlib.Core.List.{List, _∷_}
+use mathlib.Core.List.{List, [], _∷_}
 use lib.ListN.{length, take, drop}
 use Rattle.std.specs.declared.result.Result.{Result}
 use Rattle.std.specs.declared.result.Result.the-variants.{Ok, Err}
@@ -62,3 +62,8 @@ pub data NotCounted (to : ℕ) (f : Fault) : Type 0 where
 abbrev pub Counted : ℕ → Mail → Result ℕ Fault → Type 0
 Counted to m (Ok n) = (to ≤ 8) × (n ≡ waitingFor to (m .waiting))
 Counted to m (Err f) = NotCounted to f
+
+-- what posting a letter and fetching for its address answers, where nothing waited: the text or nothing, and from a faithful carrier the text
+pub record Echoed (l : Letter) (old new : List ℕ) (before after : Mail) (r : Result ℕ Fault) : Type 0 where
+  pub any : before .waiting ≡ [] → (n : ℕ) → r ≡ Ok n → take n new ≡ l .text
+  pub faithful : before .faithful ≡ true → before .waiting ≡ [] → Fit l → 768 ≤ length old → (r ≡ Ok (length (l .text))) × (take (length (l .text)) new ≡ l .text) × (after .waiting ≡ [])

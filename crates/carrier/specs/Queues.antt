@@ -16,6 +16,7 @@ use Rattle.fault.specs.declared.kinds.Layer.the-variants.{Carrier}
 use Rattle.fault.specs.declared.kinds.NotMade.{NotMade}
 use Rattle.fault.specs.declared.kinds.NotMade.the-variants.{Refused, Memory}
 use Rattle.fault.specs.Numbers.{told}
+use Rattle.carrier.specs.declared.kinds.Queue.{Queue}
 use Rattle.carrier.specs.declared.kinds.Row.{Row}
 use Rattle.carrier.specs.declared.kinds.Slot.{Slot}
 use Rattle.carrier.specs.Mail.{Letter, Mail, waitingFor}
@@ -80,3 +81,9 @@ abbrev pub MakesRow : ℕ → Result Row NotMade → Type 0
 MakesRow n (Ok r) = (r .room ≡ n) × (letters r ≡ [])
 MakesRow n (Err (Refused f)) = (f ≡ told Carrier Range) × ((1 ≤ n) × (n ≤ 64) → ⊥)
 MakesRow n (Err Memory) = (1 ≤ n) × (n ≤ 64)
+
+-- what making a queue of a size answers: an empty, faithful carrier of that capacity
+abbrev pub MakesQueue : {O : Type 0} → ℕ → Result (Queue O) NotMade → Type 0
+MakesQueue n (Ok q) = rowMail (q .row) ≡ record { waiting = []; capacity = n; faithful = true }
+MakesQueue n (Err (Refused f)) = (f ≡ told Carrier Range) × ((1 ≤ n) × (n ≤ 64) → ⊥)
+MakesQueue n (Err Memory) = (1 ≤ n) × (n ≤ 64)

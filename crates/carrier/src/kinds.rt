@@ -1,5 +1,5 @@
 // Where a letter goes, and a letter that waits.
-ghost use Prim.Native.Nat.{_≤_};
+ghost use Prim.Native.Nat.{_≤_, _<_};
 ghost use mathlib.Core.Path.{_≡_};
 ghost use lib.ListN.{length};
 ghost use Rattle.std.specs.Of.Vec.{vec-len, vec-cap};
@@ -39,9 +39,33 @@ pub struct Queue<O> {
 }
 
 // The oldest letter for an address goes first.
-#[derive(Clone, Copy, Debug)]
+#[derive(Clone, Copy, Default, Debug)]
 pub struct Oldest;
 
 // The latest letter for an address goes first.
-#[derive(Clone, Copy, Debug)]
+#[derive(Clone, Copy, Default, Debug)]
 pub struct Latest;
+
+// What becomes of a letter that is posted: it is lost, carried, or carried twice.
+#[derive(Clone, Copy, PartialEq, Eq, Debug)]
+pub enum Fate {
+    Lost,
+    Carried,
+    Doubled,
+}
+
+// The fates of letters one after another, over and over.
+#[derive(Drop)]
+pub struct Plan {
+    pub fates: Vec<Fate>,
+    ghost size: { (1 ≤ vec-len fates) × (vec-len fates ≤ 64) },
+}
+
+// A carrier over another, which loses and doubles by plan. `next` is the place of the next letter's fate.
+#[derive(Drop)]
+pub struct Fates<C> {
+    pub below: C,
+    pub plan: Plan,
+    pub next: usize,
+    ghost within: { next < vec-len (plan .fates) },
+}

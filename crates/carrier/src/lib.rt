@@ -1,19 +1,37 @@
-// Carriers: mail between the ends.
+// Carriers: mail between the site and the doors, which may lose, double and reorder.
 mod checks;
+mod fated;
 mod finding;
 mod kinds;
 mod mail;
+mod plans;
 mod queues;
 mod rows;
 mod slots;
+mod uses;
 
+pub use fated::FatesCarrier;
+pub use fated::FatesCountable;
 pub use kinds::Address;
+pub use kinds::AddressDebug;
+pub use kinds::AddressPartialEq;
+pub use kinds::Fate;
+pub use kinds::FateDebug;
+pub use kinds::FatePartialEq;
+pub use kinds::Fates;
 pub use kinds::Latest;
+pub use kinds::LatestDefault;
 pub use kinds::Oldest;
+pub use kinds::OldestDefault;
+pub use kinds::Plan;
 pub use kinds::Queue;
 pub use mail::Carrier;
 pub use mail::Countable;
+pub use queues::LatestOrder;
+pub use queues::OldestOrder;
+pub use queues::Order;
 pub use queues::QueueCarrier;
 pub use queues::QueueCountable;
 pub use queues::Ring;
 pub use queues::Stack;
+pub use uses::echo;

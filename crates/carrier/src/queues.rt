@@ -2,7 +2,7 @@
 ghost use Prim.Native.Nat.{ℕ, _<_};
 ghost use mathlib.Core.Path.{_≡_};
 ghost use Rattle.carrier.specs.Posts.{Posted, Fetched, Counted};
-ghost use Rattle.carrier.specs.Queues.{letter, letters, rowMail, Picks, AtEnd, InOrder};
+ghost use Rattle.carrier.specs.Queues.{letter, letters, rowMail, Picks, AtEnd, InOrder, MakesQueue};
 use crate::checks::check_address;
 use crate::finding::count_for;
 use crate::finding::first_for;
@@ -49,10 +49,13 @@ pub impl Order for Latest as LatestOrder {
     }
 }
 
-impl<O: Order + Drop> Queue<O> {
+impl<O: Order + Default> Queue<O> {
     // An empty queue for 1 to 64 letters, whose memory is taken here.
-    pub fn new(heap: Global, order: O, size: usize) -> Result<Queue<O>, NotMade> {
+    pub fn new(heap: Global, size: usize) -> Result<Queue<O>, NotMade>
+        ensures { λ r. ⌜ MakesQueue size r ⌝ }
+    {
         let row = Row::new(heap, size)?;
+        let order = O::default();
         Ok(Queue { row, order })
     }
 }

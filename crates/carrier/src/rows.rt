@@ -72,7 +72,12 @@ impl Row {
     }
 
     // Hands out the letter at the place that was found for an address.
-    pub fn fetch(&mut self, to: Address, place: Option<usize>, buffer: &mut [u8]) -> Result<usize, Fault>
+    pub fn fetch(
+        &mut self,
+        to: Address,
+        place: Option<usize>,
+        buffer: &mut [u8],
+    ) -> Result<usize, Fault>
         requires { ⌜ Found (to .number) (letters (now self)) place ⌝ }
         ensures fetched { λ r. ⌜ Fetched (to .number) (now (buffer .entry)) (now (buffer .exit)) (rowMail (now (self .entry))) (rowMail (now (self .exit))) r ⌝ }
         ensures there { λ r. ⌜ FromPlace place (now (buffer .entry)) (now (buffer .exit)) (letters (now (self .entry))) (letters (now (self .exit))) r ⌝ }

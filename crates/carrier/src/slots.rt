@@ -15,7 +15,11 @@ impl Slot {
     {
         let mut bytes = [0; 768];
         bytes[0..text.len()].copy_from_slice(text);
-        Slot { to: to.number, len: text.len(), bytes }
+        Slot {
+            to: to.number,
+            len: text.len(),
+            bytes,
+        }
     }
 
     pub fn is_for(&self, to: Address) -> bool

@@ -13,9 +13,9 @@ pub struct Address {
 // A place that holds one letter.
 #[derive(Clone, Copy)]
 pub struct Slot {
-    pub to: u8,
-    pub len: usize,
-    pub bytes: [u8; 768],
+    pub(crate) to: u8,
+    pub(crate) len: usize,
+    pub(crate) bytes: [u8; 768],
     ghost whole: { length bytes ≡ 768 },
     ghost address: { to ≤ 8 },
     ghost some: { (1 ≤ len) × (len ≤ 768) },
@@ -24,8 +24,8 @@ pub struct Slot {
 // Letters in the order in which they came, and room for a fixed number of them.
 #[derive(Drop)]
 pub struct Row {
-    pub slots: Vec<Slot>,
-    pub room: usize,
+    pub(crate) slots: Vec<Slot>,
+    pub(crate) room: usize,
     ghost size: { (1 ≤ room) × (room ≤ 64) },
     ghost held: { vec-len slots ≤ room },
     ghost reserved: { room ≤ vec-cap slots },
@@ -34,8 +34,8 @@ pub struct Row {
 // A carrier that keeps its letters in a row, and hands them out in an order of its own.
 #[derive(Drop)]
 pub struct Queue<O> {
-    pub row: Row,
-    pub order: O,
+    pub(crate) row: Row,
+    pub(crate) order: O,
 }
 
 // The oldest letter for an address goes first.
@@ -57,15 +57,15 @@ pub enum Fate {
 // The fates of letters one after another, over and over.
 #[derive(Drop)]
 pub struct Plan {
-    pub fates: Vec<Fate>,
+    pub(crate) fates: Vec<Fate>,
     ghost size: { (1 ≤ vec-len fates) × (vec-len fates ≤ 64) },
 }
 
 // A carrier over another, which loses and doubles by plan. `next` is the place of the next letter's fate.
 #[derive(Drop)]
 pub struct Fates<C> {
-    pub below: C,
-    pub plan: Plan,
-    pub next: usize,
+    pub(crate) below: C,
+    pub(crate) plan: Plan,
+    pub(crate) next: usize,
     ghost within: { next < vec-len (plan .fates) },
 }

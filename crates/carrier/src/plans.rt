@@ -49,7 +49,7 @@ impl Plan {
     }
 
     // The fate at a place of the plan.
-    pub fn fate(&self, at: usize) -> Fate
+    pub(crate) fn fate(&self, at: usize) -> Fate
         requires { ⌜ at < vec-len (now self .fates) ⌝ }
         ensures { λ r. ⌜ r ≡ fateAt (now (self .entry)) at ⌝ }
     {

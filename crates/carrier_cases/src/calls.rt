@@ -24,11 +24,18 @@ pub fn call<C: Countable>(rt: &LibcRuntime, carrier: &mut C, line: &str) -> Resu
 }
 
 fn address(text: &str) -> Address {
-    Address { number: text.parse::<u8>().unwrap_or(255) }
+    Address {
+        number: text.parse::<u8>().unwrap_or(255),
+    }
 }
 
 // `post 3 words`, or `post 3 *n` for n bytes.
-fn post<C: Countable>(rt: &LibcRuntime, carrier: &mut C, line: &str, rest: &str) -> Result<(), AnyError> {
+fn post<C: Countable>(
+    rt: &LibcRuntime,
+    carrier: &mut C,
+    line: &str,
+    rest: &str,
+) -> Result<(), AnyError> {
     let (to, text) = rest.split_once(' ').unwrap_or((rest, ""));
     let answer = match text.strip_prefix("*") {
         Some(length) => {
@@ -45,7 +52,12 @@ fn post<C: Countable>(rt: &LibcRuntime, carrier: &mut C, line: &str, rest: &str)
 }
 
 // `fetch 3 n`, with a buffer of n bytes that are all dots before.
-fn fetch<C: Countable>(rt: &LibcRuntime, carrier: &mut C, line: &str, rest: &str) -> Result<(), AnyError> {
+fn fetch<C: Countable>(
+    rt: &LibcRuntime,
+    carrier: &mut C,
+    line: &str,
+    rest: &str,
+) -> Result<(), AnyError> {
     let (to, size) = rest.split_once(' ').unwrap_or((rest, "768"));
     let mut buffer = vec![in rt.alloc(); b'.'; size.parse::<usize>().unwrap_or(0)]?;
     match carrier.fetch(address(to), buffer.as_mut_slice()) {
@@ -74,7 +86,12 @@ fn trailing_dots(bytes: &[u8]) -> usize {
     dots
 }
 
-fn count<C: Countable>(rt: &LibcRuntime, carrier: &mut C, line: &str, to: &str) -> Result<(), AnyError> {
+fn count<C: Countable>(
+    rt: &LibcRuntime,
+    carrier: &mut C,
+    line: &str,
+    to: &str,
+) -> Result<(), AnyError> {
     match carrier.count(address(to)) {
         Ok(count) => println!(rt, "{line} = {count}")?,
         Err(fault) => println!(rt, "{line} = {fault}")?,

@@ -1,19 +1,19 @@
 // The carrier that the calls are for, and how one is made.
 use crate::calls::call;
 use carrier::Fates;
-use carrier::Plan;
-use carrier::Ring;
-use carrier::Stack;
-use fault::NotMade;
-use std::error::AnyError;
+use carrier::FatesCountable;
 use carrier::LatestDefault;
 use carrier::LatestOrder;
 use carrier::OldestDefault;
 use carrier::OldestOrder;
+use carrier::Plan;
 use carrier::QueueCarrier;
-use fault::FaultDisplay;
-use carrier::FatesCountable;
 use carrier::QueueCountable;
+use carrier::Ring;
+use carrier::Stack;
+use fault::FaultDisplay;
+use fault::NotMade;
+use std::error::AnyError;
 
 #[derive(Drop)]
 pub enum Made {

@@ -2,8 +2,7 @@
 use Prim.Native.Nat.{ℕ, _≤_}
 use mathlib.Core.Path.{_≡_}
 use mathlib.Core.List.{List, [], _∷_}
-use Rattle.std.specs.declared.option.Option.{Option}
-use Rattle.std.specs.declared.option.Option.the-variants.{Some, None}
+use Rattle.std.specs.declared.option.Option.the-variants.{Some}
 use Rattle.std.specs.declared.result.Result.{Result}
 use Rattle.std.specs.declared.result.Result.the-variants.{Ok, Err}
 use Rattle.fault.specs.declared.kinds.Cause.the-variants.{Malformed}
@@ -13,7 +12,7 @@ use Rattle.fault.specs.declared.kinds.Property.{Property}
 use Rattle.fault.specs.declared.kinds.Property.the-variants.{Sequence, Dtstamp}
 use Rattle.fault.specs.Numbers.{told, wanting}
 use Rattle.rank.specs.declared.kinds.Revision.{Revision}
-use Rattle.stamp.specs.Stamps.{Stamped}
+use Rattle.stamp.specs.Stamps.{Real}
 
 -- a damaged property
 abbrev pub damaged : Property → Fault
@@ -22,12 +21,12 @@ damaged p = wanting (told Properties Malformed) (Some p)
 abbrev pub rankOf : Revision → List ℕ
 rankOf r = r .sequence .number ∷ (r .dtstamp .seconds ∷ [])
 
--- which property is damaged, in the order in which they are read
-pub data Refuses (dtstamp : List ℕ) (f : Fault) : Type 0 where
-  sequence : f ≡ damaged Sequence → Refuses dtstamp f
-  stamp : f ≡ damaged Dtstamp → ((n : ℕ) → Stamped n dtstamp → ⊥) → Refuses dtstamp f
+-- which property is damaged
+pub data Refuses (f : Fault) : Type 0 where
+  sequence : f ≡ damaged Sequence → Refuses f
+  stamp : f ≡ damaged Dtstamp → Refuses f
 
--- the revision has the stamp of the text and a SEQUENCE in its range; a refusal names the property that is damaged
-abbrev pub ReadsRevision : List ℕ → Result Revision Fault → Type 0
-ReadsRevision dtstamp (Ok r) = Stamped (r .dtstamp .seconds) dtstamp × (r .sequence .number ≤ 9999)
-ReadsRevision dtstamp (Err f) = Refuses dtstamp f
+-- what is read has a SEQUENCE and a stamp in their ranges; a refusal names the property that is damaged
+abbrev pub ReadsRevision : Result Revision Fault → Type 0
+ReadsRevision (Ok r) = Real (r .dtstamp .seconds) × (r .sequence .number ≤ 9999)
+ReadsRevision (Err f) = Refuses f

@@ -13,24 +13,19 @@ use rank::Sequence;
 use rank::keep_newer;
 use stamp::Stamp;
 
-#[derive(Clone, Copy)]
-pub struct Arrival {
-    pub sequence: &'static str,
-    pub dtstamp: &'static str,
-}
-
-// The revision that an arrival writes. A text that is no number from 0 to 9,999, or no stamp, is refused with the property that it damages.
-pub fn read_revision(arrival: Arrival) -> Result<Revision, Fault>
-    ensures { λ r. ⌜ ReadsRevision (now (arrival .dtstamp)) r ⌝ }
+// The revision that a text `SEQUENCE DTSTAMP` writes. Where a part is no number from 0 to 9,999, or no stamp, the fault names the damaged property.
+pub fn read_revision(text: &str) -> Result<Revision, Fault>
+    ensures { λ r. ⌜ ReadsRevision r ⌝ }
 {
     let damaged = Fault::new(Layer::Properties, Cause::Malformed);
-    let Ok(number) = arrival.sequence.parse::<u16>() else {
+    let (sequence, dtstamp) = text.split_once(' ').unwrap_or((text, ""));
+    let Ok(number) = sequence.parse::<u16>() else {
         return Err(damaged.wanting(Some(Property::Sequence)));
     };
     if number > 9_999 {
         return Err(damaged.wanting(Some(Property::Sequence)));
     }
-    let Some(dtstamp) = Stamp::read(arrival.dtstamp.as_bytes()) else {
+    let Some(dtstamp) = Stamp::read(dtstamp.as_bytes()) else {
         return Err(damaged.wanting(Some(Property::Dtstamp)));
     };
     Ok(Revision {

@@ -1,84 +1,55 @@
-// A floor's week, as far as it goes: revisions of one meeting come in at door 2, out of order and one of them damaged.
-// The door keeps the newest, and the statement says what came, what was kept, and what was refused.
+// A floor's week, as far as it goes: revisions of one meeting travel to door 2 by mail that reorders, doubles and loses.
+// The door keeps the newest, and the statement says what was sent, what came, what was kept, and what was refused.
 mod arrivals;
+mod door;
 
-use arrivals::Arrival;
-use arrivals::read_revision;
-use arrivals::take;
-use fault::FaultDisplay;
-use rank::Revision;
-use rank::RevisionPartialEq;
-use stamp::StampDisplay;
-use std::io;
+use carrier::Fates;
+use carrier::FatesCarrier;
+use carrier::LatestDefault;
+use carrier::LatestOrder;
+use carrier::OldestDefault;
+use carrier::OldestOrder;
+use carrier::Plan;
+use carrier::QueueCarrier;
+use carrier::Ring;
+use carrier::Stack;
+use door::Door;
+use fault::NotMade;
+use std::error::AnyError;
 
-// The second revision overtook the first, which comes twice; one arrival between them has a day that is not on the calendar.
-const THURSDAY: [Arrival; 4] = [
-    Arrival {
-        sequence: "1",
-        dtstamp: "20250129T120000Z",
-    },
-    Arrival {
-        sequence: "0",
-        dtstamp: "20250127T100000Z",
-    },
-    Arrival {
-        sequence: "1",
-        dtstamp: "20250229T120000Z",
-    },
-    Arrival {
-        sequence: "0",
-        dtstamp: "20250127T100000Z",
-    },
-];
+const FIRST: &str = "0 20250127T100000Z";
 
-fn main(rt: LibcRuntime) -> io::Result<()> {
+const SECOND: &str = "1 20250129T120000Z";
+// Its day is not on the calendar.
+const DAMAGED: &str = "1 20250229T120000Z";
+
+fn main(rt: LibcRuntime) -> Result<(), AnyError> {
+    let heap = rt.alloc();
+    let Ok(mut stack) = Stack::new(heap, 4) else {
+        return Err("the stack was not made".into());
+    };
+    println!(rt, "Wednesday, by a relay that hands out the latest first:")?;
+    let mut door = Door::new(heap)?;
+    door.send(&rt, &mut stack, FIRST)?;
+    door.send(&rt, &mut stack, SECOND)?;
+    door.take_all(&rt, &mut stack)?;
+    let Ok(mut fates) = lossy(&rt) else {
+        return Err("the fates layer was not made".into());
+    };
     println!(
         rt,
-        "Thursday at door 2: revisions of meeting 7 as they came in"
+        "Thursday, by a relay that doubles the first text, loses the second and carries the third:"
     )?;
-    let mut held: Option<Revision> = None;
-    for (i, arrival) in THURSDAY.iter().enumerate() {
-        held = report(&rt, i + 1, *arrival, held)?;
-    }
-    match held {
-        Some(revision) => print_held(&rt, revision),
-        None => println!(rt, "held at the end: nothing"),
-    }
+    door.send(&rt, &mut fates, FIRST)?;
+    door.send(&rt, &mut fates, SECOND)?;
+    door.send(&rt, &mut fates, DAMAGED)?;
+    door.take_all(&rt, &mut fates)?;
+    door.report(&rt)
 }
 
-// Tells of one arrival, and what is held after it.
-fn report(
-    rt: &LibcRuntime,
-    line: usize,
-    arrival: Arrival,
-    held: Option<Revision>,
-) -> io::Result<Option<Revision>> {
-    let sequence = arrival.sequence;
-    let dtstamp = arrival.dtstamp;
-    print!(rt, "{line}. SEQUENCE {sequence}, DTSTAMP {dtstamp}: ")?;
-    match read_revision(arrival) {
-        Err(fault) => {
-            println!(rt, "refused, {fault}")?;
-            Ok(held)
-        }
-        Ok(came) => {
-            let kept = take(held, came);
-            let verdict = if kept == came {
-                "taken"
-            } else {
-                "older than what is held, not taken"
-            };
-            println!(rt, "{verdict}")?;
-            Ok(Some(kept))
-        }
-    }
-}
-
-fn print_held(rt: &LibcRuntime, revision: Revision) -> io::Result<()> {
-    let sequence = revision.sequence.number;
-    let dtstamp = revision.dtstamp;
-    println!(
-        rt,
-        "held at the end: SEQUENCE {sequence}, DTSTAMP {dtstamp}"
-    )
+// A ring of 4 under a plan of three fates.
+fn lossy(rt: &LibcRuntime) -> Result<Fates<Ring>, NotMade> {
+    let plan = Plan::read(rt.alloc(), b"201")?;
+    let below = Ring::new(rt.alloc(), 4)?;
+    Ok(Fates::new(below, plan))
 }

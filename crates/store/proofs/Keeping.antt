@@ -2,16 +2,19 @@
 use Prim.Native.Nat.{ℕ, _+_, _≤_, _<_}
 use mathlib.Core.Path.{_≡_, refl, sym, ap, subst, _∙_}
 use mathlib.Core.Bool.{Bool, true, false, cond}
-use mathlib.Core.List.{List, [], _∷_}
+use mathlib.Core.List.{List, [], _∷_, _++_}
 use native.Mathlib.Omega.{arith}
 use lib.Dec.{eqb}
-use lib.ListN.{length, getD, length-take}
+use lib.ListN.{length, getD, drop, length-take}
 use Rattle.std.proofs.shelf.Lists.{getD-default}
 use Rattle.std.proofs.shelf.Ways.{tells}
 use Rattle.std.specs.declared.option.Option.{Option}
 use Rattle.std.specs.declared.option.Option.the-variants.{None, Some}
+use Rattle.std.specs.declared.result.Result.{Result}
+use Rattle.std.specs.declared.result.Result.the-variants.{Ok, Err}
+use Rattle.fault.specs.declared.kinds.Fault.{Fault}
 use Rattle.store.specs.declared.entry.Entry.{Entry}
-use Rattle.store.specs.Rows.{Keyed, Rows, Fit, Sound, Sets, heldIn}
+use Rattle.store.specs.Rows.{Rows, Fit, Sound, Sets, NotGot, Got, Kept, bytesOf, heldIn}
 use Rattle.store.specs.Entries.{bytesIn, later, says, rowIn, Newest, Wrote}
 use Rattle.store.proofs.Held.{held-again, held-more}
 use Rattle.store.proofs.Newest.{row-none, row-some}
@@ -62,3 +65,23 @@ fit-rows (e ∷ es) k bytes h = fit-later e k bytes (rowIn es k) (fit-rows es k 
 
 pub kept-sound : (es : List Entry) (n : ℕ) → heldIn (rowIn es) ≤ n → Sound (kept es n)
 kept-sound es n h = record { within = h; fit = fit-rows es }
+
+-- a row that was put comes back
+not-refused : (key : ℕ) (bytes old : List ℕ) (f : Fault) → Fit key bytes → 192 ≤ length old → NotGot key old f → ⊥
+not-refused key bytes old f fit long (NotGot.short e h) = omega arith
+not-refused key bytes old f fit long (NotGot.range e h k) = omega (arith, fit .known)
+
+pub kept-back : (key : ℕ) (bytes old new : List ℕ) (before after : Rows) (r : Result ℕ Fault) → Sets key bytes before after → Got key old new (after .row) r → Kept key bytes old new before after r
+kept-back key bytes old new before after (Ok n) s g =
+    let row : bytesOf (after .row key) ≡ bytes = ap bytesOf (s .here) in
+    let size : n ≡ length bytes = g .size ∙ ap length row in
+    record {
+      back = λ m e. let k : n ≡ m = cc in subst (λ (i : ℕ). (i ≡ length bytes) × (new ≡ bytes ++ drop i old) × (after .row key ≡ Some bytes)) k (size, g .whole ∙ ap (λ (b : List ℕ). b ++ drop n old) row, s .here);
+      elsewhere = s .elsewhere;
+      accepted = λ fit long room. ap Ok size;
+    }
+kept-back key bytes old new before after (Err f) s g = record {
+  back = λ m e. absurd (grind arith);
+  elsewhere = s .elsewhere;
+  accepted = λ fit long room. absurd (not-refused key bytes old f fit long (g .0));
+}

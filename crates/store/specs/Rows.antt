@@ -85,3 +85,9 @@ pub data NotGot (key : ℕ) (old : List ℕ) (f : Fault) : Type 0 where
 abbrev pub Got : ℕ → List ℕ → List ℕ → Keyed → Result ℕ Fault → Type 0
 Got key old new row (Ok n) = Gets key n old new row
 Got key old new row (Err f) = NotGot key old f × (new ≡ old)
+
+-- what putting a row and getting it back answers: the row, with every other as it was; and it is accepted where row, buffer and room are fit
+pub record Kept (key : ℕ) (bytes old new : List ℕ) (before after : Rows) (r : Result ℕ Fault) : Type 0 where
+  pub back : (n : ℕ) → r ≡ Ok n → (n ≡ length bytes) × (new ≡ bytes ++ drop n old) × (after .row key ≡ Some bytes)
+  pub elsewhere : (k : ℕ) → (k ≡ key → ⊥) → after .row k ≡ before .row k
+  pub accepted : Fit key bytes → 192 ≤ length old → (before .row key ≡ None → heldIn (before .row) < before .capacity) → r ≡ Ok (length bytes)

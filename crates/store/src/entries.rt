@@ -40,7 +40,11 @@ impl Entry {
     {
         let mut bytes = [0; 192];
         bytes[0..row.len()].copy_from_slice(row);
-        Entry { key: key.number, len: row.len(), bytes }
+        Entry {
+            key: key.number,
+            len: row.len(),
+            bytes,
+        }
     }
 
     // Copies the row to the front of the buffer, keeps the buffer's rest, and tells the length.

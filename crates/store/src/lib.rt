@@ -5,6 +5,7 @@ mod logs;
 mod rows;
 mod stores;
 mod tables;
+mod uses;
 mod writing;
 
 pub use entry::Key;
@@ -15,3 +16,4 @@ pub use rows::Store;
 pub use stores::Log;
 pub use stores::Table;
 pub use tables::TableStore;
+pub use uses::keep;

@@ -25,7 +25,10 @@ impl Log {
             return Err(NotMade::Refused(Fault::new(Layer::Store, Cause::Range)));
         }
         let entries = Vec::with_capacity(heap, size)?;
-        Ok(Log { entries, room: size })
+        Ok(Log {
+            entries,
+            room: size,
+        })
     }
 }
 

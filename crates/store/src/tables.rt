@@ -25,7 +25,10 @@ impl Table {
             return Err(NotMade::Refused(Fault::new(Layer::Store, Cause::Range)));
         }
         let entries = Vec::with_capacity(heap, slots)?;
-        Ok(Table { entries, room: slots })
+        Ok(Table {
+            entries,
+            room: slots,
+        })
     }
 }
 

@@ -25,7 +25,9 @@ pub fn call<S: Store>(rt: &LibcRuntime, store: &mut S, line: &str) -> Result<(),
 }
 
 fn key(text: &str) -> Key {
-    Key { number: text.parse::<u16>().unwrap_or(65_535) }
+    Key {
+        number: text.parse::<u16>().unwrap_or(65_535),
+    }
 }
 
 fn told(rt: &LibcRuntime, line: &str, answer: Result<(), Fault>) -> Result<(), AnyError> {
@@ -50,7 +52,12 @@ fn put<S: Store>(rt: &LibcRuntime, store: &mut S, line: &str, rest: &str) -> Res
 }
 
 // `rewrite 3 n`: puts n rows under one key, one over another.
-fn rewrite<S: Store>(rt: &LibcRuntime, store: &mut S, line: &str, rest: &str) -> Result<(), AnyError> {
+fn rewrite<S: Store>(
+    rt: &LibcRuntime,
+    store: &mut S,
+    line: &str,
+    rest: &str,
+) -> Result<(), AnyError> {
     let (name, times) = rest.split_once(' ').unwrap_or((rest, "0"));
     let mut answer = Ok(());
     for i in 0..times.parse::<u32>().unwrap_or(0) {

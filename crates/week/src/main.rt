@@ -1,5 +1,5 @@
 // A floor's week, as far as it goes: revisions of one meeting travel to door 2 by mail that reorders, doubles and loses.
-// The door keeps the newest, and the statement says what was sent, what came, what was kept, and what was refused.
+// The door keeps the newest in its log, and the statement says what was sent, what came, what was kept, and what was refused.
 mod arrivals;
 mod door;
 
@@ -16,6 +16,7 @@ use carrier::Stack;
 use door::Door;
 use fault::NotMade;
 use std::error::AnyError;
+use store::Log;
 
 const FIRST: &str = "0 20250127T100000Z";
 
@@ -28,8 +29,11 @@ fn main(rt: LibcRuntime) -> Result<(), AnyError> {
     let Ok(mut stack) = Stack::new(heap, 4) else {
         return Err("the stack was not made".into());
     };
+    let Ok(log) = Log::new(heap, 8) else {
+        return Err("the log was not made".into());
+    };
+    let mut door = Door::new(heap, log)?;
     println!(rt, "Wednesday, by a relay that hands out the latest first:")?;
-    let mut door = Door::new(heap)?;
     door.send(&rt, &mut stack, FIRST)?;
     door.send(&rt, &mut stack, SECOND)?;
     door.take_all(&rt, &mut stack)?;

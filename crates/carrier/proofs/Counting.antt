@@ -11,9 +11,9 @@ use Rattle.std.proofs.shelf.Tests.{cases-bool}
 use Rattle.std.proofs.shelf.Ways.{tells}
 use Rattle.carrier.specs.declared.kinds.Row.{Row}
 use Rattle.carrier.specs.declared.kinds.Slot.{Slot}
-use Rattle.carrier.specs.Mail.{Letter, Mail, Fit, Sound, sameText, sameLetter, times, waitingFor}
+use Rattle.carrier.specs.Mail.{Letter, Mail, Fit, Sound, sameText, sameLetter, times, waitingFor, letter}
 use Rattle.carrier.specs.Posts.{Takes, Hands}
-use Rattle.carrier.specs.Queues.{letter, letterIn, letters, forAt, rowMail, TakesOut}
+use Rattle.carrier.specs.Queues.{letterIn, letters, forAt, rowMail, TakesOut}
 use Rattle.carrier.proofs.Places.{letters-length}
 
 -- the test of equal letters is true of equal letters alone

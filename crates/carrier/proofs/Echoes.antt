@@ -12,9 +12,8 @@ use Rattle.std.proofs.shelf.Ways.{tells}
 use Rattle.std.specs.declared.result.Result.{Result}
 use Rattle.std.specs.declared.result.Result.the-variants.{Ok, Err}
 use Rattle.fault.specs.declared.kinds.Fault.{Fault}
-use Rattle.carrier.specs.Mail.{Letter, Mail, Fit, Among, SameMail, sameLetter, sameText, times, waitingFor}
+use Rattle.carrier.specs.Mail.{Letter, Mail, Fit, Among, SameMail, sameLetter, sameText, times, waitingFor, letter}
 use Rattle.carrier.specs.Posts.{Takes, Hands, Fetched, NotHanded, NotAsked, Echoed}
-use Rattle.carrier.specs.Queues.{letter}
 use Rattle.carrier.proofs.Counting.{same-letter, own-letter, times-own}
 
 no-letter : (b : Bool) → b ≡ false → 0 < cond {A = ℕ} b 1 0 + 0 → ⊥

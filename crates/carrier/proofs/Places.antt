@@ -12,8 +12,8 @@ use Rattle.std.proofs.shelf.Tests.{cases-eq}
 use Rattle.std.specs.Of.Vec.{vec-items, vec-len}
 use Rattle.carrier.specs.declared.kinds.Row.{Row}
 use Rattle.carrier.specs.declared.kinds.Slot.{Slot}
-use Rattle.carrier.specs.Mail.{Letter, waitingFor}
-use Rattle.carrier.specs.Queues.{letter, letterIn, letters, forAt, TakesOut}
+use Rattle.carrier.specs.Mail.{Letter, waitingFor, letter}
+use Rattle.carrier.specs.Queues.{letterIn, letters, forAt, TakesOut}
 
 pub letters-length : (r : Row) → length (letters r) ≡ vec-len (r .slots)
 letters-length r = length-map (vec-items (r .slots)) letterIn ∙ sym (r .slots .ok .0)

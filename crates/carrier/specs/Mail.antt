@@ -11,6 +11,9 @@ pub record Letter : Type 0 where
   pub to : ℕ
   pub text : List ℕ
 
+abbrev pub letter : ℕ → List ℕ → Letter
+letter to text = record { to = to; text = text }
+
 abbrev pub sameText : List ℕ → List ℕ → Bool
 sameText [] [] = true
 sameText [] (y ∷ ys) = false

@@ -10,7 +10,7 @@ use Rattle.fault.specs.declared.kinds.Cause.the-variants.{Range, CarrierFull, S
 use Rattle.fault.specs.declared.kinds.Fault.{Fault}
 use Rattle.fault.specs.declared.kinds.Layer.the-variants.{Carrier}
 use Rattle.fault.specs.Numbers.{told}
-use Rattle.carrier.specs.Mail.{Letter, Mail, Fit, times, waitingFor, SameMail, NoMore, Among}
+use Rattle.carrier.specs.Mail.{Letter, letter, Mail, Fit, times, waitingFor, SameMail, NoMore, Among}
 
 -- an accepted post: what waits then waited before or is the letter; a faithful carrier adds just the letter
 pub record Takes (l : Letter) (before after : Mail) : Type 0 where
@@ -35,11 +35,11 @@ pub record Hands (to n : ℕ) (old new : List ℕ) (before after : Mail) : Type 
   pub long : 768 ≤ length old
   pub size : n ≤ 768
   pub rest : drop n new ≡ drop n old
-  pub waited : 0 < times (record { to = to; text = take n new }) (before .waiting)
+  pub waited : 0 < times (letter to (take n new)) (before .waiting)
   pub capacity : after .capacity ≡ before .capacity
   pub faithful : after .faithful ≡ before .faithful
   pub no-more : NoMore (after .waiting) (before .waiting)
-  pub exact : before .faithful ≡ true → SameMail (record { to = to; text = take n new } ∷ after .waiting) (before .waiting)
+  pub exact : before .faithful ≡ true → SameMail (letter to (take n new) ∷ after .waiting) (before .waiting)
 
 -- why a fetch is refused before the mail is looked at, in the order of the tests
 pub data NotAsked (to : ℕ) (old : List ℕ) (f : Fault) : Type 0 where

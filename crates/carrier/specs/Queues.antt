@@ -19,10 +19,7 @@ use Rattle.fault.specs.Numbers.{told}
 use Rattle.carrier.specs.declared.kinds.Queue.{Queue}
 use Rattle.carrier.specs.declared.kinds.Row.{Row}
 use Rattle.carrier.specs.declared.kinds.Slot.{Slot}
-use Rattle.carrier.specs.Mail.{Letter, Mail, waitingFor}
-
-abbrev pub letter : ℕ → List ℕ → Letter
-letter to text = record { to = to; text = text }
+use Rattle.carrier.specs.Mail.{Letter, letter, Mail, waitingFor}
 
 abbrev pub letterIn : Slot → Letter
 letterIn s = letter (s .to) (take (s .len) (s .bytes))

@@ -3,9 +3,8 @@ ghost use Prim.Native.Nat.{ℕ};
 ghost use mathlib.Core.Path.{_≡_};
 ghost use lib.ListN.{length};
 ghost use Rattle.std.specs.Orderings.{Decides};
-ghost use Rattle.carrier.specs.Mail.{Mail, Sound};
+ghost use Rattle.carrier.specs.Mail.{Mail, Sound, letter};
 ghost use Rattle.carrier.specs.Posts.{Posted, Fetched, Counted};
-ghost use Rattle.carrier.specs.Queues.{letter};
 use crate::kinds::Address;
 use fault::Fault;
 

@@ -1,8 +1,9 @@
 // The ring and the stack: one carrier that keeps its letters in a row, and two orders in which it hands them out.
 ghost use Prim.Native.Nat.{ℕ, _<_};
 ghost use mathlib.Core.Path.{_≡_};
+ghost use Rattle.carrier.specs.Mail.{letter};
 ghost use Rattle.carrier.specs.Posts.{Posted, Fetched, Counted};
-ghost use Rattle.carrier.specs.Queues.{letter, letters, rowMail, Picks, AtEnd, InOrder, MakesQueue};
+ghost use Rattle.carrier.specs.Queues.{letters, rowMail, Picks, AtEnd, InOrder, MakesQueue};
 use crate::checks::check_address;
 use crate::finding::count_for;
 use crate::finding::first_for;

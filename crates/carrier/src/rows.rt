@@ -4,9 +4,9 @@ ghost use mathlib.Core.Path.{_≡_};
 ghost use mathlib.Core.List.{[], _∷_, _++_};
 ghost use lib.ListN.{length, take, drop};
 ghost use Rattle.std.specs.Orderings.{Decides};
-ghost use Rattle.carrier.specs.Mail.{Fit};
+ghost use Rattle.carrier.specs.Mail.{Fit, letter};
 ghost use Rattle.carrier.specs.Posts.{Posted, Fetched};
-ghost use Rattle.carrier.specs.Queues.{letter, letters, MakesRow, TakesOut, Found, FromPlace, AtEnd, rowMail};
+ghost use Rattle.carrier.specs.Queues.{letters, MakesRow, TakesOut, Found, FromPlace, AtEnd, rowMail};
 use crate::checks::check_fetch;
 use crate::checks::check_letter;
 use crate::kinds::Address;
@@ -21,7 +21,7 @@ use std::alloc::Global;
 
 impl Row {
     // An empty row with room for 1 to 64 letters, whose memory is taken here.
-    pub fn new(heap: Global, room: usize) -> Result<Row, NotMade>
+    pub(crate) fn new(heap: Global, room: usize) -> Result<Row, NotMade>
         ensures { λ r. ⌜ MakesRow room r ⌝ }
     {
         if room < 1 || room > 64 {
@@ -31,14 +31,14 @@ impl Row {
         Ok(Row { slots, room })
     }
 
-    pub fn is_full(&self) -> bool
+    pub(crate) fn is_full(&self) -> bool
         ensures { λ r. ⌜ Decides r (length (letters (now (self .entry))) ≡ now (self .entry) .room) ⌝ }
     {
         self.slots.len() == self.room
     }
 
     // Puts a letter at the end.
-    pub fn push(&mut self, to: Address, text: &[u8])
+    pub(crate) fn push(&mut self, to: Address, text: &[u8])
         requires fit { ⌜ Fit (letter (to .number) (now text)) ⌝ }
         requires room { ⌜ length (letters (now self)) < now self .room ⌝ }
         ensures items { λ _. ⌜ letters (now (self .exit)) ≡ letters (now (self .entry)) ++ (letter (to .number) (now (text .entry)) ∷ []) ⌝ }
@@ -48,7 +48,7 @@ impl Row {
     }
 
     // Takes the letter at a place out, and copies its text to the front of the buffer.
-    pub fn take(&mut self, place: usize, buffer: &mut [u8]) -> usize
+    pub(crate) fn take(&mut self, place: usize, buffer: &mut [u8]) -> usize
         requires there { ⌜ place < length (letters (now self)) ⌝ }
         requires long { ⌜ 768 ≤ length (now buffer) ⌝ }
         ensures taken { λ r. ⌜ TakesOut place r (now (buffer .entry)) (now (buffer .exit)) (letters (now (self .entry))) (letters (now (self .exit))) ⌝ }
@@ -59,7 +59,7 @@ impl Row {
     }
 
     // Puts a letter at the end, if it can be carried and there is room.
-    pub fn post(&mut self, to: Address, text: &[u8]) -> Result<(), Fault>
+    pub(crate) fn post(&mut self, to: Address, text: &[u8]) -> Result<(), Fault>
         ensures posted { λ r. ⌜ Posted (letter (to .number) (now (text .entry))) (rowMail (now (self .entry))) (rowMail (now (self .exit))) r ⌝ }
         ensures last { λ r. ⌜ AtEnd (letter (to .number) (now (text .entry))) (letters (now (self .entry))) (letters (now (self .exit))) r ⌝ }
     {
@@ -72,7 +72,7 @@ impl Row {
     }
 
     // Hands out the letter at the place that was found for an address.
-    pub fn fetch(
+    pub(crate) fn fetch(
         &mut self,
         to: Address,
         place: Option<usize>,

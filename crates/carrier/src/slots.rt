@@ -3,13 +3,13 @@ ghost use Prim.Native.Nat.{ℕ, _≤_, _<_};
 ghost use mathlib.Core.Path.{_≡_};
 ghost use lib.Dec.{eqb};
 ghost use lib.ListN.{length, take, drop};
-ghost use Rattle.carrier.specs.Mail.{Fit};
-ghost use Rattle.carrier.specs.Queues.{letterIn, letter};
+ghost use Rattle.carrier.specs.Mail.{Fit, letter};
+ghost use Rattle.carrier.specs.Queues.{letterIn};
 use crate::kinds::Address;
 use crate::kinds::Slot;
 
 impl Slot {
-    pub fn new(to: Address, text: &[u8]) -> Slot
+    pub(crate) fn new(to: Address, text: &[u8]) -> Slot
         requires { ⌜ Fit (letter (to .number) (now text)) ⌝ }
         ensures { λ r. ⌜ letterIn r ≡ letter (to .number) (now (text .entry)) ⌝ }
     {
@@ -22,14 +22,14 @@ impl Slot {
         }
     }
 
-    pub fn is_for(&self, to: Address) -> bool
+    pub(crate) fn is_for(&self, to: Address) -> bool
         ensures { λ r. ⌜ r ≡ eqb (letterIn (now (self .entry)) .to) (to .number) ⌝ }
     {
         self.to == to.number
     }
 
     // Copies the text to the front of the buffer, keeps the buffer's rest, and tells the length.
-    pub fn copy_to(&self, buffer: &mut [u8]) -> usize
+    pub(crate) fn copy_to(&self, buffer: &mut [u8]) -> usize
         requires { ⌜ 768 ≤ length (now buffer) ⌝ }
         ensures size { λ r. ⌜ r ≡ length (letterIn (now (self .entry)) .text) ⌝ }
         ensures front { λ r. ⌜ take r (now (buffer .exit)) ≡ letterIn (now (self .entry)) .text ⌝ }

@@ -1,6 +1,6 @@
 // What can be said of any carrier, and of any faithful one, from their rules alone.
+ghost use Rattle.carrier.specs.Mail.{letter};
 ghost use Rattle.carrier.specs.Posts.{Echoed};
-ghost use Rattle.carrier.specs.Queues.{letter};
 use crate::kinds::Address;
 use crate::mail::Carrier;
 use fault::Fault;

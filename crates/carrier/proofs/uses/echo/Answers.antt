@@ -1,5 +1,5 @@
 use native.Mathlib.Omega.{arith}
-use Rattle.carrier.specs.Queues.{letter}
+use Rattle.carrier.specs.Mail.{letter}
 use Rattle.carrier.proofs.Echoes.{echoed}
 use Rattle.carrier.proofs.uses.echo.Needs as need
 

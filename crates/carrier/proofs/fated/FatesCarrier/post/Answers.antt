@@ -1,9 +1,8 @@
 use Prim.Native.Nat.{ℕ, _+_, _%_}
 use mathlib.Core.Path.{refl, ap, subst}
 use Rattle.carrier.specs.declared.kinds.Fate.{Fate}
-use Rattle.carrier.specs.Mail.{Letter, Mail}
+use Rattle.carrier.specs.Mail.{Letter, Mail, letter}
 use Rattle.carrier.specs.Fates.{Fated}
-use Rattle.carrier.specs.Queues.{letter}
 use Rattle.carrier.proofs.Fating.{unfaithful-takes}
 use Rattle.carrier.proofs.fated.FatesCarrier.post.Needs as need
 

@@ -2,19 +2,20 @@
 use Prim.Native.Nat.{ℕ, zero, suc, _+_, _-_, _≤_, _<_}
 use mathlib.Core.Path.{_≡_, refl, sym, ap, subst, _∙_}
 use mathlib.Core.Bool.{Bool, true, false, cond}
-use mathlib.Core.List.{List, [], _∷_, _++_, append-assoc}
+use mathlib.Core.List.{List, [], _∷_, _++_}
 use mathlib.Core.Logic.{⊎-elim}
 use native.Mathlib.Omega.{arith}
 use lib.Dec.{eqb}
-use lib.Seq.{take-append-le, drop-append-le}
-use lib.ListN.{length, getD, take, drop, set}
+use lib.Seq.{drop-append-le}
+use lib.ListN.{length, getD, take, drop, set, length-append}
 use Rattle.std.proofs.shelf.Tests.{cases-eq}
 use Rattle.std.proofs.shelf.Ways.{tells}
+use Rattle.std.specs.Options.{isSome}
 use Rattle.std.specs.declared.option.Option.{Option}
 use Rattle.std.specs.declared.option.Option.the-variants.{None, Some}
 use Rattle.store.specs.declared.entry.Entry.{Entry}
 use Rattle.store.specs.Rows.{Keyed, bytesOf, Gets}
-use Rattle.store.specs.Entries.{bytesIn, later, says, rowIn, keyAt, Newest, Wrote}
+use Rattle.store.specs.Entries.{bytesIn, later, says, rowIn, keyAt, Newest, Obsolete, Wrote}
 
 -- an entry by its place
 key-at : (key : ℕ) (es : List Entry) (p : ℕ) (d : Entry) → p < length es → keyAt key es p ≡ eqb (getD es p d .key) key
@@ -111,7 +112,7 @@ row-removed k (y ∷ es) (suc p) l h =
     let e : suc p + 1 ≡ suc (p + 1) = omega arith in
     rw e (ap (later (says y k)) (row-removed k es p (omega arith) h))
 
--- the three ways to write a row: at the end, over its entry, and at the end with its old entry taken out
+-- the two ways to write a row: at the end, and over its entry
 pushed : (es : List Entry) (x : Entry) → Wrote (x .key) (bytesIn x) es (es ++ (x ∷ []))
 pushed es x = record {
   here = row-push es x (x .key) ∙ ap (later (rowIn es (x .key))) (says-own x (x .key) refl);
@@ -127,10 +128,37 @@ wrote-set es p x n = record {
 pub wrote-push : (es after : List Entry) (x : Entry) → after ≡ es ++ (x ∷ []) → Wrote (x .key) (bytesIn x) es after
 wrote-push es after x e = subst (Wrote (x .key) (bytesIn x) es) (sym e) (pushed es x)
 
-pub wrote-over : (es grown after : List Entry) (p : ℕ) (x : Entry) → Newest (x .key) es (Some p) → grown ≡ es ++ (x ∷ []) → after ≡ take p grown ++ drop (p + 1) grown → Wrote (x .key) (bytesIn x) es after
-wrote-over es grown after p x n g a =
-    let first : p ≤ length es = omega (arith, n .0) in
-    let second : p + 1 ≤ length es = omega (arith, n .0) in
-    let e : take p (es ++ (x ∷ [])) ++ drop (p + 1) (es ++ (x ∷ [])) ≡ (take p es ++ drop (p + 1) es) ++ (x ∷ []) = rw (take-append-le p es (x ∷ []) first, drop-append-le (p + 1) es (x ∷ []) second, append-assoc) in
-    let w = wrote-push (take p es ++ drop (p + 1) es) after x (a ∙ ap (λ (l : List Entry). take p l ++ drop (p + 1) l) g ∙ e) in
-    record { here = w .here; elsewhere = λ k ne. w .elsewhere k ne ∙ row-removed k es p (n .0) (key-other (x .key) k es p (n .1) ne) }
+-- an entry that no longer counts says nothing
+later-some : (a o : Option (List ℕ)) → isSome o ≡ true → o ≡ later a o
+later-some a None h = absurd (grind arith)
+later-some a (Some b) h = refl
+
+row-own-removed : (key : ℕ) (es : List Entry) (p : ℕ) → p < length es → isSome (rowIn (drop (p + 1) es) key) ≡ true → rowIn (take p es ++ drop (p + 1) es) key ≡ rowIn es key
+row-own-removed key [] p l h = absurd (omega arith)
+row-own-removed key (y ∷ es) zero l h = later-some (says y key) (rowIn es key) h
+row-own-removed key (y ∷ es) (suc p) l h =
+    let e : suc p + 1 ≡ suc (p + 1) = omega arith in
+    rw e (ap (later (says y key)) (row-own-removed key es p (omega arith) (rw e at h)))
+
+pub row-given-up : (es after : List Entry) (p : ℕ) → Obsolete es p → after ≡ take p es ++ drop (p + 1) es → (k : ℕ) → rowIn after k ≡ rowIn es k
+row-given-up es after p o e k =
+    ap (λ (l : List Entry). rowIn l k) e ∙ ⊎-elim (λ same. rw same (row-own-removed (o .key) es p (o .there) (o .newer))) (λ ne. row-removed k es p (o .there) (key-other (o .key) k es p (o .own) ne)) (cases-eq k (o .key))
+
+-- once a row is written, the entry that its key had no longer counts
+key-append : (key : ℕ) (es more : List Entry) (p : ℕ) → p < length es → keyAt key (es ++ more) p ≡ keyAt key es p
+key-append key [] more p h = absurd (omega arith)
+key-append key (e ∷ es) more zero h = refl
+key-append key (e ∷ es) more (suc p) h = key-append key es more p (omega arith)
+
+obsolete-push : (es : List Entry) (p : ℕ) (x : Entry) → Newest (x .key) es (Some p) → Obsolete (es ++ (x ∷ [])) p
+obsolete-push es p x n =
+    let fits : p + 1 ≤ length es = omega (arith, n .0) in
+    record {
+      key = x .key;
+      there = omega (arith, n .0, length-append es (x ∷ []));
+      own = key-append (x .key) es (x ∷ []) p (n .0) ∙ n .1;
+      newer = ap (λ (l : List Entry). isSome (rowIn l (x .key))) (drop-append-le (p + 1) es (x ∷ []) fits) ∙ ap isSome (pushed (drop (p + 1) es) x .here);
+    }
+
+pub now-obsolete : (es grown : List Entry) (p : ℕ) (x : Entry) → Newest (x .key) es (Some p) → grown ≡ es ++ (x ∷ []) → Obsolete grown p
+now-obsolete es grown p x n g = subst (λ (l : List Entry). Obsolete l p) (sym g) (obsolete-push es p x n)

@@ -1,10 +1,11 @@
 -- Rows kept as a list of entries, of which the newest for a key counts.
-use Prim.Native.Nat.{ℕ, zero, suc, _<_}
+use Prim.Native.Nat.{ℕ, zero, suc, _+_, _<_}
 use mathlib.Core.Path.{_≡_}
 use mathlib.Core.Bool.{Bool, true, false, cond}
 use mathlib.Core.List.{List, [], _∷_}
 use lib.Dec.{eqb}
-use lib.ListN.{length, take}
+use lib.ListN.{length, take, drop}
+use Rattle.std.specs.Options.{isSome}
 use Rattle.std.specs.declared.option.Option.{Option}
 use Rattle.std.specs.declared.option.Option.the-variants.{None, Some}
 use Rattle.store.specs.declared.entry.Entry.{Entry}
@@ -42,3 +43,10 @@ Newest key es (Some p) = (p < length es) × (keyAt key es p ≡ true) × ((i : �
 pub record Wrote (key : ℕ) (bytes : List ℕ) (before after : List Entry) : Type 0 where
   pub here : rowIn after key ≡ Some bytes
   pub elsewhere : (k : ℕ) → (k ≡ key → ⊥) → rowIn after k ≡ rowIn before k
+
+-- the entry at a place no longer counts: a later one is for the same key
+pub record Obsolete (es : List Entry) (p : ℕ) : Type 0 where
+  pub key : ℕ
+  pub there : p < length es
+  pub own : keyAt key es p ≡ true
+  pub newer : isSome (rowIn (drop (p + 1) es) key) ≡ true

@@ -4,13 +4,13 @@ use Rattle.stamp.specs.Stamps.{Stamped}
 use Rattle.property.proofs.Texts.{front_is, stamp_long}
 use Rattle.property.proofs.periods.read_front.Goals as goal
 
-pub returns-in-err-stamp : goal.returns-in-err-stamp
-returns-in-err-stamp c =
-    rw c.from-residual-in-err-stamp.ensures
-    (λ n at rest s e. c.in-err-stamp.ensures n (subst (Stamped n) (sym (front_is _ _ at rest (stamp_long n at s) c.in-ok-front.ensures.cases.1 e)) s))
+pub returns-in_err-stamp : goal.returns-in_err-stamp
+returns-in_err-stamp c =
+    rw c.from_residual-in_err-stamp.ensures
+    (λ n at rest s e. c.in_err-stamp.ensures n (subst (Stamped n) (sym (front_is _ _ at rest (stamp_long n at s) c.in_ok-front.ensures.cases.1 e)) s))
 
 pub returns : goal.returns
 returns c =
-    let parts = c.in-ok-front.ensures.cases in
+    let parts = c.in_ok-front.ensures.cases in
     let whole = take-append-drop 16 c.args.text.now in
-    (c.in-ok-front.front.now, c.in-ok-stamp.ensures.stamped, cc)
+    (c.in_ok-front.front.now, c.in_ok-stamp.ensures.stamped, cc)

@@ -4,8 +4,8 @@ use Rattle.store.proofs.writing.add.Goals as goal
 
 pub returns : goal.returns
 returns c = record {
-  obsolete = λ p newest. now_obsolete (vec_items c.args.entries.now) (vec_items c.push-reserved.new.self) p c.args.entry newest c.push-reserved.ensures.items;
-  wrote = wrote_push (vec_items c.args.entries.now) (vec_items c.push-reserved.new.self) c.args.entry c.push-reserved.ensures.items;
-  len = c.push-reserved.ensures.len;
-  capacity = c.push-reserved.ensures.capacity;
+  obsolete = λ p newest. now_obsolete (vec_items c.args.entries.now) (vec_items c.push_reserved.new.self) p c.args.entry newest c.push_reserved.ensures.items;
+  wrote = wrote_push (vec_items c.args.entries.now) (vec_items c.push_reserved.new.self) c.args.entry c.push_reserved.ensures.items;
+  len = c.push_reserved.ensures.len;
+  capacity = c.push_reserved.ensures.capacity;
 }

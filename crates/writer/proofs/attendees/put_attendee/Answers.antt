@@ -11,17 +11,17 @@ door_ranged : (a : Attendee) → AttendeeRanged a → DoorRanged (door_of a)
 door_ranged (Invited d h) r = r.0
 door_ranged (Answering d a) r = r
 
-pub put-door-requires : goal.put-door-requires
-put-door-requires c =
-    let status = c.put-partstat-address.ensures in
-    (subst DoorRanged (sym c.door-of-door.ensures) (door_ranged c.args.attendee c.requires.0), omega (arith, (partstat_legible c.args.attendee status.text status.said).short))
+pub put_door-requires : goal.put_door-requires
+put_door-requires c =
+    let status = c.put_partstat-address.ensures in
+    (subst DoorRanged (sym c.door_of-door.ensures) (door_ranged c.args.attendee c.requires.0), omega (arith, (partstat_legible c.args.attendee status.text status.said).short))
 
 pub returns : goal.returns
 returns c =
-    let status = c.put-partstat-address.ensures in
-    let door = c.put-door.ensures in
+    let status = c.put_partstat-address.ensures in
+    let door = c.put_door.ensures in
     record {
       text = _;
-      said = record { status = status.text; door = door.text; said = status.said; named = subst (λ d. DoorText d door.text) c.door-of-door.ensures door.said; written = refl };
+      said = record { status = status.text; door = door.text; said = status.said; named = subst (λ d. DoorText d door.text) c.door_of-door.ensures door.said; written = refl };
       put = put_more c.put-status.ensures (put_more status.put door.put);
     }

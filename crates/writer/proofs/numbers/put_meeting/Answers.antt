@@ -5,7 +5,7 @@ use Rattle.writer.proofs.numbers.put_meeting.Goals as goal
 
 pub returns : goal.returns
 returns c =
-    let digits : c.four-digits-digits.result ≡ four c.args.meeting.number = cc in
+    let digits : c.four_digits-digits.result ≡ four c.args.meeting.number = cc in
     record {
       text = _;
       said = (_, record { first = c.requires.0; last = c.requires.1.0; written = refl }, refl);

@@ -9,6 +9,6 @@ without_zeros digits n zeros e f = rw e (take_rest (four n) zeros ∙ f)
 
 pub returns : goal.returns
 returns c =
-    let digits = without_zeros _ c.args.sequence.number c.leading-zeros-zeros.result c.four-digits-digits.ensures c.leading-zeros-zeros.ensures.1 in
+    let digits = without_zeros _ c.args.sequence.number c.leading_zeros-zeros.result c.four_digits-digits.ensures c.leading_zeros-zeros.ensures.1 in
     put_after c.put-number.ensures
     (record { text = plain c.args.sequence.number; said = record { last = c.requires.0; written = refl }; put = put_same digits c.put.ensures })

@@ -22,4 +22,4 @@ title_ranged : (t : Title) (empty : Bool) → Decides empty (title_text t ≡ []
 title_ranged t empty d = Decides-like (not empty) (some_title t) (λ s e. omega (arith, s.some, ap length e)) (Decides-not empty d)
 
 pub returns-in-Summary : goal.returns-in-Summary
-returns-in-Summary c = rw c.in-Summary.is (title_ranged c.in-Summary.title c.is-empty.result c.is-empty.ensures)
+returns-in-Summary c = rw c.in-Summary.is (title_ranged c.in-Summary.title c.is_empty.result c.is_empty.ensures)

@@ -4,8 +4,8 @@ use Rattle.writer.proofs.stamps.put_period.Goals as goal
 
 pub returns : goal.returns
 returns c =
-    let start = c.put-stamp-slash.ensures in
-    let end = c.put-stamp.ensures in
+    let start = c.put_stamp-slash.ensures in
+    let end = c.put_stamp.ensures in
     put_after c.put-first.ensures
     (record {
       text = _;

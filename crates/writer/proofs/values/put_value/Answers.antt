@@ -5,9 +5,9 @@ use Rattle.writer.proofs.values.put_value.Goals as goal
 
 pub put-requires : goal.put-requires
 put-requires c =
-    let name = ap length c.name-of.ensures in
+    let name = ap length c.name_of.ensures in
     let room = (named (property_of (part_of c.args.value.now))).room in
-    omega (arith, text_room _ c.put-text-end.ensures)
+    omega (arith, text_room _ c.put_text-end.ensures)
 
 pub returns : goal.returns
-returns c = put_parts _ _ c.name-of.ensures c.put-colon.ensures c.put-text-end.ensures c.put.ensures
+returns c = put_parts _ _ c.name_of.ensures c.put-colon.ensures c.put_text-end.ensures c.put.ensures

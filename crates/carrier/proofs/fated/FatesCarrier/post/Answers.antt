@@ -7,10 +7,10 @@ use Rattle.carrier.proofs.fated.FatesCarrier.post.Goals as goal
 
 pub returns : goal.returns
 returns g c =
-    let p = c.in-ok-post-as.ensures in
+    let p = c.in_ok-post_as.ensures in
     let l : Letter = letter c.args.to.number c.args.text.now in
     let before : Mail = g.C.Carrier.mail c.args.self.now.below in
-    let after : Mail = g.C.Carrier.mail c.post-as.new.below in
+    let after : Mail = g.C.Carrier.mail c.post_as.new.below in
     record {
       posted = unfaithful_takes c.fate-fate.result l before after p.0 p.1 p.2;
       fated = (p.0, p.1, subst (λ (f : Fate). Fated f l before after) c.fate-fate.ensures p.2);

@@ -5,14 +5,14 @@ use Rattle.carrier.specs.Queues.{letter_in, letters}
 use Rattle.carrier.specs.Places.{letters-length}
 use Rattle.carrier.proofs.kinds.Row.push.Goals as goal
 
-pub push-reserved-requires : goal.push-reserved-requires
-push-reserved-requires c = omega (arith, letters-length c.args.self.now, c.requires.room, c.args.self.now.reserved)
+pub push_reserved-requires : goal.push_reserved-requires
+push_reserved-requires c = omega (arith, letters-length c.args.self.now, c.requires.room, c.args.self.now.reserved)
 
-pub invariant-of-self : goal.invariant-of-self
-invariant-of-self c = (c.args.self.now.size, (omega (arith, letters-length c.args.self.now, c.requires.room, c.push-reserved.ensures.len), (omega (arith, c.push-reserved.ensures.capacity, c.args.self.now.reserved), tt)))
+pub invariant_of-self : goal.invariant_of-self
+invariant_of-self c = (c.args.self.now.size, (omega (arith, letters-length c.args.self.now, c.requires.room, c.push_reserved.ensures.len), (omega (arith, c.push_reserved.ensures.capacity, c.args.self.now.reserved), tt)))
 
 pub returns : goal.returns
 returns c = record {
-  items = ap (map letter_in) c.push-reserved.ensures.items ∙ map_push letter_in _ _ ∙ ap (λ (x : Letter). letters c.args.self.now ++ (x ∷ [])) c.new.ensures;
+  items = ap (map letter_in) c.push_reserved.ensures.items ∙ map_push letter_in _ _ ∙ ap (λ (x : Letter). letters c.args.self.now ++ (x ∷ [])) c.new.ensures;
   room = refl;
 }

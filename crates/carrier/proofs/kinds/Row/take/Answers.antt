@@ -7,6 +7,6 @@ remove-slot-requires c = omega (arith, letters-length c.args.self.now, c.require
 
 pub returns : goal.returns
 returns c = record {
-  taken = taken_out (vec_items c.args.self.now.slots) (vec_items c.remove-slot.new.self) c.args.place c.copy-to.result c.remove-slot.result c.args.buffer.now c.copy-to.new.buffer (omega (arith, letters-length c.args.self.now, c.requires.there, c.args.self.now.slots.ok.0)) c.remove-slot.ensures.value c.remove-slot.ensures.by_index.2 (omega (arith, c.copy-to.ensures.size, length-take c.remove-slot.result.len c.remove-slot.result.bytes, c.remove-slot.result.some)) c.copy-to.ensures.front c.copy-to.ensures.rest;
+  taken = taken_out (vec_items c.args.self.now.slots) (vec_items c.remove-slot.new.self) c.args.place c.copy_to.result c.remove-slot.result c.args.buffer.now c.copy_to.new.buffer (omega (arith, letters-length c.args.self.now, c.requires.there, c.args.self.now.slots.ok.0)) c.remove-slot.ensures.value c.remove-slot.ensures.by_index.2 (omega (arith, c.copy_to.ensures.size, length-take c.remove-slot.result.len c.remove-slot.result.bytes, c.remove-slot.result.some)) c.copy_to.ensures.front c.copy_to.ensures.rest;
   room = refl;
 }

@@ -2,8 +2,8 @@ use Rattle.std.proofs.Common.{arith}
 use Rattle.property.proofs.Texts.{padded_long, padded_at, padded_front}
 use Rattle.property.proofs.kinds.Title.read.Goals as goal
 
-pub invariant-of-result : goal.invariant-of-result
-invariant-of-result c =
+pub invariant_of-result : goal.invariant_of-result
+invariant_of-result c =
     let fits = c.fit.ensures.0 c.if-not-fit.false in
     (padded_long c.args.text.now _ (omega arith) c.padded.ensures, (omega arith, ((λ k h. padded_at _ _ c.padded.ensures k h (fits k h)), tt)))
 

@@ -8,7 +8,7 @@ loop-month-init c = search (rules, sum_none)
 pub loop-month-preserved : goal.loop-month-preserved
 loop-month-preserved c = search (rules, months_more)
 
-pub invariant-of-result-2 : goal.invariant-of-result-2
-invariant-of-result-2 c =
+pub invariant_of-result-2 : goal.invariant_of-result-2
+invariant_of-result-2 c =
     let p : c.loop-month.left < 31 = months_last c.args.year c.loop-month.month c.loop-month.left c.args.days (omega arith) c.loop-month.invariant c.requires.1.1 in
     search rules

@@ -4,5 +4,5 @@ use Rattle.stamp.proofs.civil.Stamp.read.Goals as goal
 
 pub returns : goal.returns
 returns c =
-    let apart = c.in-ok-date.ensures in
-    matched c.args.text.now c.in-ok-day.day c.in-ok-time.time c.at.result apart.0 (sym apart.1 ∙ c.in-ok-day.ensures) (sym apart.2 ∙ c.in-ok-time.ensures) c.at.ensures
+    let apart = c.in_ok-date.ensures in
+    matched c.args.text.now c.in_ok-day.day c.in_ok-time.time c.at.result apart.0 (sym apart.1 ∙ c.in_ok-day.ensures) (sym apart.2 ∙ c.in_ok-time.ensures) c.at.ensures

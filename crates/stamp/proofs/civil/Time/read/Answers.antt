@@ -4,4 +4,4 @@ use Rattle.stamp.proofs.civil.Time.read.Goals as goal
 
 pub returns : goal.returns
 returns c =
-    read_time c.args.digits c.new.result c.in-ok-hour.hour c.in-ok-minute.minute c.in-ok-second.second (omega arith) c.in-ok-hour.ensures.1 c.in-ok-minute.ensures.1 c.in-ok-second.ensures.1 c.new.ensures
+    read_time c.args.digits c.new.result c.in_ok-hour.hour c.in_ok-minute.minute c.in_ok-second.second (omega arith) c.in_ok-hour.ensures.1 c.in_ok-minute.ensures.1 c.in_ok-second.ensures.1 c.new.ensures

@@ -5,7 +5,7 @@ use Rattle.store.specs.Entries.{row_in}
 use Rattle.store.specs.Held.{none_held}
 use Rattle.store.proofs.stores.Log.new.Goals as goal
 
-pub invariant-of-result : goal.invariant-of-result
-invariant-of-result c =
-    let made = c.in-ok-entries.ensures in
+pub invariant_of-result : goal.invariant_of-result
+invariant_of-result c =
+    let made = c.in_ok-entries.ensures in
     ((omega arith, omega arith), (omega (arith, made.len), (omega (arith, made.capacity), (ap (λ (es : List Entry). held_in (row_in es)) made.items ∙ none_held ∙ sym made.len, tt))))

@@ -13,7 +13,7 @@ use fault::{Cause, Fault, Layer};
 
 // Whether a carrier would take a letter.
 fn check_post<C: Carrier>(below: &C, to: Address, text: &[u8]) -> Result<(), Fault>
-    ensures { PostedAs Lost (letter to.number text.now) (mail below.now) (mail below.now) result }
+    ensures { PostedAs Lost (letter to.number text.now) (C.mail below.now) (C.mail below.now) result }
 {
     check_letter(to, text)?;
     if below.is_full() {
@@ -24,7 +24,7 @@ fn check_post<C: Carrier>(below: &C, to: Address, text: &[u8]) -> Result<(), Fau
 
 // Has a letter meet its fate.
 fn post_as<C: Carrier>(below: &mut C, fate: Fate, to: Address, text: &[u8]) -> Result<(), Fault>
-    ensures { PostedAs fate (letter to.number text.now) (mail below.old) (mail below.new) result }
+    ensures { PostedAs fate (letter to.number text.now) (C.mail below.old) (C.mail below.new) result }
 {
     match fate {
         Fate::Lost => check_post(below, to, text),

@@ -14,7 +14,7 @@ pub fn echo<C: Carrier>(
     text: &[u8],
     buffer: &mut [u8],
 ) -> Result<usize, Fault>
-    ensures { Echoed (letter to.number text.now) buffer.old buffer.new (mail carrier.old) (mail carrier.new) result }
+    ensures { Echoed (letter to.number text.now) buffer.old buffer.new (C.mail carrier.old) (C.mail carrier.new) result }
 {
     carrier.post(to, text)?;
     carrier.fetch(to, buffer)

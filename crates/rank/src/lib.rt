@@ -66,7 +66,7 @@ impl Ranked for AnswerRank {
 
 // The newer of the one that is held and the one that came; of two of equal rank, the one that is held.
 pub fn keep_newer<T: Ranked + Drop>(held: T, came: T) -> T
-    ensures { Kept rank held came result }
+    ensures { Kept T.rank held came result }
 {
     if came.is_newer(&held) { came } else { held }
 }

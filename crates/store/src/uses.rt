@@ -12,7 +12,7 @@ pub fn keep<S: Store>(
     row: &[u8],
     buffer: &mut [u8],
 ) -> Result<usize, Fault>
-    ensures { Kept key.number row.now buffer.old buffer.new (rows store.old) (rows store.new) result }
+    ensures { Kept key.number row.now buffer.old buffer.new (S.rows store.old) (S.rows store.new) result }
 {
     store.put(key, row)?;
     store.get(key, buffer)

@@ -9,7 +9,11 @@ pub push_reserved-requires : goal.push_reserved-requires
 push_reserved-requires c = omega (arith, letters-length c.args.self.now, c.requires.room, c.args.self.now.reserved)
 
 pub invariant_of-self : goal.invariant_of-self
-invariant_of-self c = (c.args.self.now.size, (omega (arith, letters-length c.args.self.now, c.requires.room, c.push_reserved.ensures.len), (omega (arith, c.push_reserved.ensures.capacity, c.args.self.now.reserved), tt)))
+invariant_of-self c = record {
+  size = c.args.self.now.size;
+  held = omega (arith, letters-length c.args.self.now, c.requires.room, c.push_reserved.ensures.len);
+  reserved = omega (arith, c.push_reserved.ensures.capacity, c.args.self.now.reserved);
+}
 
 pub returns : goal.returns
 returns c = record {

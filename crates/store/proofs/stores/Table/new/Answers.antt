@@ -8,4 +8,9 @@ use Rattle.store.proofs.stores.Table.new.Goals as goal
 pub invariant_of-result : goal.invariant_of-result
 invariant_of-result c =
     let made = c.in_ok-entries.ensures in
-    ((omega arith, omega arith), (omega (arith, made.len), (omega (arith, made.capacity), (ap (λ (es : List Entry). held_in (row_in es)) made.items ∙ none_held ∙ sym made.len, tt))))
+    record {
+      size = (omega arith, omega arith);
+      within = omega (arith, made.len);
+      reserved = omega (arith, made.capacity);
+      apart = ap (λ (es : List Entry). held_in (row_in es)) made.items ∙ none_held ∙ sym made.len;
+    }

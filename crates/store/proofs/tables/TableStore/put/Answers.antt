@@ -6,7 +6,12 @@ use Rattle.store.proofs.tables.TableStore.put.Goals as goal
 pub invariant_of-self : goal.invariant_of-self
 invariant_of-self c =
     let put = put_again _ _ c.new-entry.result (vec_items c.args.self.now.entries) _ (vec_items c.replace.new.entries) c.in-Some.place c.args.self.now.room c.in_ok-check_row.ensures c.new-entry.ensures.key c.new-entry.ensures.bytes c.as_slice.ensures.value c.in-Some.ensures c.replace.ensures.wrote in
-    (c.args.self.now.size, (omega (arith, c.replace.ensures.len, c.args.self.now.within), (omega (arith, c.replace.ensures.capacity, c.args.self.now.reserved), (put.1 ∙ c.args.self.now.apart ∙ sym c.replace.ensures.len, tt))))
+    record {
+      size = c.args.self.now.size;
+      within = omega (arith, c.replace.ensures.len, c.args.self.now.within);
+      reserved = omega (arith, c.replace.ensures.capacity, c.args.self.now.reserved);
+      apart = put.1 ∙ c.args.self.now.apart ∙ sym c.replace.ensures.len;
+    }
 
 pub returns-in-Some : goal.returns-in-Some
 returns-in-Some c =
@@ -19,4 +24,9 @@ returns-then-len-self c =
 pub invariant_of-self-in-None : goal.invariant_of-self-in-None
 invariant_of-self-in-None c =
     let put = put_new _ _ c.new-entry.result (vec_items c.args.self.now.entries) _ (vec_items c.add.new.entries) c.args.self.now.room c.in_ok-check_row.ensures c.new-entry.ensures.key c.new-entry.ensures.bytes c.as_slice.ensures.value c.in-None.ensures (omega (arith, c.args.self.now.apart, c.if-len-self.false, c.len.ensures)) c.add.ensures.wrote in
-    (c.args.self.now.size, (omega (arith, c.add.ensures.len, c.if-len-self.false, c.len.ensures), (omega (arith, c.add.ensures.capacity, c.args.self.now.reserved), (omega (arith, put.1, c.args.self.now.apart, c.add.ensures.len), tt))))
+    record {
+      size = c.args.self.now.size;
+      within = omega (arith, c.add.ensures.len, c.if-len-self.false, c.len.ensures);
+      reserved = omega (arith, c.add.ensures.capacity, c.args.self.now.reserved);
+      apart = omega (arith, put.1, c.args.self.now.apart, c.add.ensures.len);
+    }

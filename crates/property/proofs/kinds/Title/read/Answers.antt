@@ -5,7 +5,11 @@ use Rattle.property.proofs.kinds.Title.read.Goals as goal
 pub invariant_of-result : goal.invariant_of-result
 invariant_of-result c =
     let fits = c.fit.ensures.0 c.if-not-fit.false in
-    (padded_long c.args.text.now _ (omega arith) c.padded.ensures, (omega arith, ((λ k h. padded_at _ _ c.padded.ensures k h (fits k h)), tt)))
+    record {
+      whole = padded_long c.args.text.now _ (omega arith) c.padded.ensures;
+      short = omega arith;
+      fit = λ k h. padded_at _ _ c.padded.ensures k h (fits k h);
+    }
 
 pub returns : goal.returns
 returns c =

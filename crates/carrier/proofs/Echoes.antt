@@ -1,11 +1,11 @@
 -- One letter in an empty carrier.
-use Rattle.std.proofs.Common.{◌≡◌, ℕ, ◌+◌, ◌<◌, ◌≤◌, Bool, true, false, cond, ◌&&◌, eqb, List, [], ◌∷◌, length, take, Ok, Err, Result, sym, refl, ap, ◌∙◌, subst, ⊎_elim, arith, length-take}
+use Rattle.std.proofs.Common.{◌≡◌, ℕ, ◌+◌, ◌<◌, ◌≤◌, Bool, true, false, cond, ◌&&◌, eqb, List, [], ◌∷◌, length, take, Ok, Err, Result, refl, ap, ◌∙◌, subst, ⊎_elim, arith, length-take}
 use Rattle.std.proofs.lemmas.Bool.{cases_Bool}
 use Rattle.std.proofs.lemmas.Bool.Decides.{nat_tests}
 use Rattle.fault.specs.declared.kinds.Fault.{Fault}
 use Rattle.carrier.specs.Mail.{Letter, Mail, Fit, Among, SameMail, same_letter, same_text, times, waiting_for, letter}
 use Rattle.carrier.specs.Posts.{Takes, Hands, Fetched, NotHanded, NotAsked, Echoed}
-use Rattle.carrier.specs.Counting.{same_letter_eq, own_letter, times_own}
+use Rattle.carrier.specs.Counting.{same_letter_eq, times_own}
 
 no_letter : (b : Bool) → b ≡ false → 0 < cond {A = ℕ} b 1 0 + 0 → ⊥
 no_letter true e h = grind arith

@@ -5,7 +5,7 @@ use Rattle.std.proofs.lemmas.Bool.{cases_Bool}
 use Rattle.std.proofs.lemmas.Bool.Decides.{nat_tests}
 use Rattle.carrier.specs.declared.kinds.Row.{Row}
 use Rattle.carrier.specs.declared.kinds.Slot.{Slot}
-use Rattle.carrier.specs.Mail.{Letter, Mail, Fit, Sound, same_text, same_letter, times, waiting_for, letter}
+use Rattle.carrier.specs.Mail.{Letter, Fit, Sound, same_text, same_letter, times, letter}
 use Rattle.carrier.specs.Posts.{Takes, Hands}
 use Rattle.carrier.specs.Queues.{letter_in, letters, for_at, row_mail, TakesOut}
 use Rattle.carrier.specs.Places.{letters-length}

@@ -1,13 +1,13 @@
 -- What a carrier that loses and doubles still keeps.
-use Rattle.std.specs.Prelude.{◌≡◌, ℕ, ◌+◌, ◌<◌, ◌≤◌, List, [], ◌∷◌, ◌++◌, map, length, take, Ok, Err, Result, ◌≢◌, slice_index, slice_index_or, refl}
-use Rattle.std.proofs.Common.{sym, ap, ◌∙◌, arith}
+use Rattle.std.specs.Prelude.{◌≡◌, ℕ, ◌+◌, ◌<◌, List, [], ◌∷◌, ◌++◌, map, length, take, Ok, Err, Result, ◌≢◌, slice_index, slice_index_or, refl}
+use Rattle.std.proofs.Common.{ap, ◌∙◌, arith}
 use Rattle.std.proofs.lemmas.List.{take_more, map_push, get_or-map, length-map}
 use Rattle.fault.specs.declared.kinds.Fault.{Fault}
 use Rattle.carrier.specs.declared.kinds.Fate.{Fate}
 use Rattle.carrier.specs.declared.kinds.Fate.TheVariants.{Lost, Carried, Doubled}
 use Rattle.carrier.specs.Mail.{Letter, Mail, Fit, Sound, Among, times}
 use Rattle.carrier.specs.Posts.{Takes, Posted}
-use Rattle.carrier.specs.Fates.{digit_of, unfaithful, Fated, PostedAs}
+use Rattle.carrier.specs.Fates.{digit_of, unfaithful, Fated}
 
 pub unfaithful_sound : (m : Mail) → Sound m → Sound (unfaithful m)
 unfaithful_sound m s = record { room = s.room; within = s.within; fit = s.fit }

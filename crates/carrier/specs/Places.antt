@@ -1,7 +1,7 @@
 -- Letters in a row, place by place.
-use Rattle.std.specs.Prelude.{◌≡◌, ℕ, zero, suc, ◌+◌, ◌-◌, ◌<◌, ◌≤◌, Bool, true, false, cond, List, [], ◌∷◌, ◌++◌, map, length, get_or, take, drop, vec_items, vec_len, ◌==◌, nat_eq, slice_index_or, refl}
+use Rattle.std.specs.Prelude.{◌≡◌, ℕ, zero, suc, ◌+◌, ◌-◌, ◌<◌, ◌≤◌, Bool, false, cond, List, [], ◌∷◌, ◌++◌, map, length, get_or, take, drop, vec_items, vec_len, ◌==◌, nat_eq, slice_index_or, refl}
 use Rattle.std.proofs.Common.{sym, ap, ◌∙◌, ⊎_elim, arith}
-use Rattle.std.proofs.lemmas.List.{map_more, map_push, map-append, take-map, drop-map, get_or-map, drop_more, take-append-drop, length-map}
+use Rattle.std.proofs.lemmas.List.{map_more, map-append, take-map, drop-map, get_or-map, drop_more, take-append-drop, length-map}
 use Rattle.std.proofs.lemmas.Bool.{cases_eq}
 use Rattle.carrier.specs.declared.kinds.Row.{Row}
 use Rattle.carrier.specs.declared.kinds.Slot.{Slot}

@@ -1,4 +1,6 @@
 // Carriers: mail between the site and the doors, which may lose, double and reorder.
+#![tactic(auto)]
+
 mod checks;
 mod fated;
 mod finding;

@@ -1,4 +1,6 @@
 // Many cases of carriers: a line of the input makes a carrier or calls one of its functions, and the line that is printed ends with the answer.
+#![tactic(auto)]
+
 mod calls;
 mod made;
 

@@ -1,5 +1,5 @@
 -- The numbers by which faults, layers and properties are known in formats and documents, and the layer to which a fault belongs.
-use Rattle.std.specs.Prelude.{ℕ, Some, None, Option}
+use Rattle.std.specs.Prelude.{ℕ, None, Option}
 use Rattle.fault.specs.declared.kinds.Cause.{Cause}
 use Rattle.fault.specs.declared.kinds.Cause.TheVariants.{Line, Frame, Method, Malformed, Misdirected, Unknown, Stale, Ahead, Dates, Range, Taken, Over, Spent, StoreFull, CarrierFull, Short, NoMail, Unfinished, NoAnswer, Unreadable}
 use Rattle.fault.specs.declared.kinds.Layer.{Layer}

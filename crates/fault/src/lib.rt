@@ -1,4 +1,6 @@
 // Faults: every refusal in the product is one value of one type, carried by `?` from where it was found to whoever prints it.
+#![tactic(auto)]
+
 ghost use Rattle.std.specs.Prelude.{◌≡◌, Some};
 ghost use Rattle.fault.specs.declared.kinds.NotMade.TheVariants.{Memory};
 ghost use Rattle.fault.specs.Numbers.{cause_number, layer_number, property_number, layer_for, told, at_line, wanting};

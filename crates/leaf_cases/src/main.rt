@@ -1,4 +1,6 @@
 // Many cases of stamps, ranks and faults: a line of the input names a call and its arguments, and the line that is printed ends with the answer.
+#![tactic(auto)]
+
 mod calls;
 
 use calls::answer;

@@ -1,4 +1,6 @@
 // Content lines (RFC 5545, 3.1, unfolded): a text is stepped through line by line, and each line is a part of it.
+#![tactic(auto)]
+
 ghost use Rattle.std.specs.Prelude.{◌≡◌, ◌+◌, length};
 ghost use Rattle.lines.specs.Steps.{Begins, Next};
 

@@ -1,17 +1,17 @@
 -- A text is read in one way: it means one message, or has one fault.
-use Rattle.std.proofs.Common.{◌≡◌, ℕ, ◌+◌, ◌<◌, ◌≤◌, Bool, true, false, List, [], ◌∷◌, ◌++◌, length, take, drop, Ok, Err, Result, sym, refl, ap, ◌∙◌, subst, arith}
+use Rattle.std.proofs.Common.{◌≡◌, ℕ, ◌+◌, ◌≤◌, false, List, [], ◌∷◌, ◌++◌, length, drop, Ok, Err, Result, sym, refl, ap, ◌∙◌, subst, arith}
 use Rattle.std.specs.List.{flat_map}
-use Rattle.std.proofs.lemmas.List.{append_assoc, append-nil, length-append, length-drop, take-append-drop, take_all, drop-drop, drop_at, drop_all}
+use Rattle.std.proofs.lemmas.List.{append_assoc, append-nil, length-append, length-drop, take-append-drop, take_all, drop-drop, drop_at}
 use Rattle.fault.specs.declared.kinds.Fault.{Fault}
 use Rattle.fault.specs.declared.kinds.Cause.TheVariants as cause
 use Rattle.fault.specs.declared.kinds.Layer.TheVariants as layer
 use Rattle.fault.specs.Numbers.{told, at_line}
 use Rattle.lines.specs.Content.{Content, Fit, bytes_of, closed, Stands}
-use Rattle.lines.specs.Steps.{Sized, NoLine}
+use Rattle.lines.specs.Steps.{Sized}
 use Rattle.lines.proofs.Places.{one_line}
 use Rattle.message.specs.declared.kinds.Message.{Message}
 use Rattle.message.specs.Meaning.{method_of, parts_of}
-use Rattle.message.specs.Grammar.{State, calendar, done, Step, NoStep, fault_in, frame_fault, Leads, AllFit, Led, Means, Whole, Refused, unsized, no_line, no_step, runs_out, Reads, Same, Alone}
+use Rattle.message.specs.Grammar.{State, calendar, done, Step, fault_in, frame_fault, Leads, AllFit, Led, Means, Whole, Refused, unsized, no_line, no_step, runs_out, Reads, Same, Alone}
 use Rattle.message.proofs.Stepping.{step_one}
 
 -- no line that stands first in what is left has a step

@@ -1,5 +1,5 @@
 -- How the reading of a text goes on and ends, from what each call answers.
-use Rattle.std.proofs.Common.{◌≡◌, ℕ, ◌+◌, ◌-◌, ◌<◌, ◌≤◌, false, List, [], ◌∷◌, length, Some, None, Ok, Err, Option, Result, sym, refl, ap, ◌∙◌, subst, arith, length-append}
+use Rattle.std.proofs.Common.{◌≡◌, ℕ, ◌+◌, ◌-◌, ◌<◌, false, List, [], ◌∷◌, length, Some, None, Ok, Err, Option, Result, sym, ap, ◌∙◌, subst, arith, length-append}
 use Rattle.fault.specs.declared.kinds.Fault.{Fault}
 use Rattle.fault.specs.Numbers.{at_line}
 use Rattle.lines.specs.declared.kinds.Line.{Line}
@@ -7,8 +7,7 @@ use Rattle.lines.specs.declared.kinds.Lines.{Lines}
 use Rattle.lines.specs.Content.{Stands, bytes_of}
 use Rattle.lines.specs.Steps.{Sized, NoLine, Steps, Stays, Next, NotRead, sized, line, content_of}
 use Rattle.message.specs.declared.kinds.Message.{Message}
-use Rattle.message.specs.Meaning.{method_of, parts_of}
-use Rattle.message.specs.Grammar.{State, done, Step, NoStep, fault_in, frame_fault, Led, Means, Refused, unsized, no_line, no_step, runs_out, Reads}
+use Rattle.message.specs.Grammar.{State, Step, NoStep, fault_in, frame_fault, Led, Refused, unsized, no_line, no_step, runs_out, Reads}
 use Rattle.message.specs.Reader.{Finishes}
 use Rattle.message.proofs.Leading.{led_more}
 

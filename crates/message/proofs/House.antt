@@ -1,11 +1,9 @@
 -- A message has one house text: its lines are told by the method and the parts.
-use Rattle.std.proofs.Common.{◌≡◌, ℕ, ◌+◌, ◌<◌, ◌≤◌, Bool, true, false, cond, List, [], ◌∷◌, ◌++◌, length, get_or, take, codes, sym, refl, ap, ◌∙◌, subst, arith}
+use Rattle.std.proofs.Common.{◌≡◌, ℕ, Bool, true, false, cond, List, [], ◌∷◌, ◌++◌, length, get_or, codes, sym, refl, ap, ◌∙◌, subst, arith}
 use Rattle.std.specs.List.{flat_map}
 use Rattle.std.specs.Str.{bytes_eq}
 use Rattle.std.proofs.lemmas.Slice.Eq.{bytes_eq-Decides}
 use Rattle.std.proofs.lemmas.List.{append_assoc, append-nil, append_cancel_left, length-append, take_all}
-use Rattle.fault.specs.declared.kinds.Property.{Property}
-use Rattle.fault.specs.declared.kinds.Property.TheVariants as property
 use Rattle.lines.specs.Content.{Content, closed}
 use Rattle.lines.proofs.Places.{same_content}
 use Rattle.property.specs.Values.{Part, Says, property_of, name_text}
@@ -16,7 +14,7 @@ use Rattle.message.specs.declared.kinds.Method.{Method}
 use Rattle.message.specs.declared.kinds.Message.{Message}
 use Rattle.message.specs.Names.{kind_of, property_kind, later_kind, method_text}
 use Rattle.message.specs.Meaning.{method_of, parts_of}
-use Rattle.message.specs.Grammar.{State, calendar, version, product, method, event, inside, closing, done, Is, Inside, skips, adds, ends, Step, Leads, Led, Means, Same, ProductText}
+use Rattle.message.specs.Grammar.{State, calendar, version, product, method, event, inside, closing, done, Inside, skips, adds, ends, Step, Leads, Means, Same}
 
 -- the name of a kind
 abbrev NameIs : Kind → List ℕ → Type 0

@@ -1,9 +1,9 @@
 -- Lines inside an event, from the reader's own state to the state that it stands for.
-use Rattle.std.proofs.Common.{◌≡◌, ℕ, ◌+◌, ◌-◌, ◌<◌, ◌≤◌, min, true, false, cond, List, [], ◌∷◌, ◌++◌, map, length, take, set, Some, None, Ok, Err, codes, Option, Result, sym, refl, ap, ◌∙◌, subst, arith}
+use Rattle.std.proofs.Common.{◌≡◌, ℕ, ◌+◌, ◌<◌, ◌≤◌, min, true, false, cond, List, [], ◌∷◌, ◌++◌, length, take, set, Some, None, Ok, Err, codes, Result, sym, refl, ap, ◌∙◌, subst, arith}
 use Rattle.std.specs.List.{slice_get}
 use Rattle.std.specs.Str.{bytes_eq}
 use Rattle.std.proofs.lemmas.Slice.Eq.{bytes_eq-Decides}
-use Rattle.std.proofs.lemmas.List.{length-map, length-take, take_more_set, take_all}
+use Rattle.std.proofs.lemmas.List.{length-map, length-take, take_more_set}
 use Rattle.std.proofs.lemmas.Bool.Decides.{nat_tests}
 use Rattle.std.proofs.lemmas.Option.{slice_get_past}
 use Rattle.fault.specs.declared.kinds.Fault.{Fault}
@@ -19,7 +19,7 @@ use Rattle.message.specs.declared.progress.Reading.{Reading}
 use Rattle.message.specs.Names.{kind_of}
 use Rattle.message.specs.Meaning.{wanted, order, required}
 use Rattle.message.specs.Grammar.{State, inside, closing, Inside, skips, adds, ends, Step, NoStep, fault_in, inside_fault, frame_fault, part_fault}
-use Rattle.message.specs.Reader.{slots, state_in, state_of, parts_read, StageIs, Moves, Closes, NotClosed, framed, early, Fills, Adds}
+use Rattle.message.specs.Reader.{slots, state_in, state_of, parts_read, StageIs, Moves, Closes, framed, early, Fills, Adds}
 
 pub length-slots : (m : Method) (e : Event) → length (slots m e) ≡ length (order m)
 length-slots Request e = omega (arith, length-map e.further rdate, e.whole)

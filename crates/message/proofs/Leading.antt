@@ -1,6 +1,5 @@
 -- Lines that lead from state to state, one more at a time.
-use Rattle.std.proofs.Common.{◌≡◌, ℕ, ◌+◌, ◌-◌, ◌<◌, ◌≤◌, Bool, List, [], ◌∷◌, ◌++◌, length, take, drop, sym, refl, ap, ◌∙◌, arith}
-use Rattle.std.specs.List.{flat_map}
+use Rattle.std.proofs.Common.{◌≡◌, ℕ, ◌+◌, Bool, List, [], ◌∷◌, ◌++◌, length, take, drop, sym, refl, ap, ◌∙◌}
 use Rattle.std.proofs.lemmas.List.{length_push, flat_map_more, take_at, take-append-drop, length-append, length-take-le, append_assoc}
 use Rattle.lines.specs.Content.{Content, Fit, closed, Stands}
 use Rattle.message.specs.Grammar.{State, calendar, Step, Leads, AllFit, Led}

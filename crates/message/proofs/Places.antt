@@ -1,18 +1,18 @@
 -- Where the parts of an event stand.
-use Rattle.std.proofs.Common.{◌≡◌, ℕ, zero, suc, ◌+◌, ◌-◌, ◌<◌, ◌≤◌, List, [], ◌∷◌, ◌++◌, map, length, get_or, take, set, Some, None, Option, sym, refl, ap, ◌∙◌, arith, MatchOption}
+use Rattle.std.proofs.Common.{◌≡◌, ℕ, zero, suc, ◌-◌, ◌<◌, ◌≤◌, List, [], ◌∷◌, ◌++◌, map, length, get_or, take, set, Some, None, Option, sym, refl, ap, ◌∙◌, arith, MatchOption}
 use Rattle.std.specs.List.{slice_get}
 use Rattle.std.proofs.lemmas.List.{map-set, set-append_right, take-map, take_all, length-take-le, length-map, get_or-map, get_or-take}
 use Rattle.std.proofs.lemmas.Option.{slice_get-get_or}
 use Rattle.fault.specs.declared.kinds.Property.TheVariants.{Rdate}
 use Rattle.property.specs.declared.kinds.Period.{Period}
-use Rattle.property.specs.declared.kinds.Attendee.TheVariants.{Invited, Answering}
+use Rattle.property.specs.declared.kinds.Attendee.TheVariants.{Invited}
 use Rattle.property.specs.declared.kinds.Value.{Value}
 use Rattle.property.specs.declared.kinds.Value.TheVariants.{Rdate as RdateValue}
-use Rattle.property.specs.Values.{Part, uid, dtstamp, sequence, organizer, attendee, summary, dtstart, dtend, rdate, status, basis, title_text, part_of, property_of}
+use Rattle.property.specs.Values.{Part, uid, dtstamp, sequence, organizer, attendee, summary, dtstart, dtend, rdate, title_text, part_of, property_of}
 use Rattle.message.specs.declared.kinds.Method.{Method}
 use Rattle.message.specs.declared.kinds.Method.TheVariants.{Request, Cancel, Reply}
 use Rattle.message.specs.declared.kinds.Event.{Event}
-use Rattle.message.specs.Meaning.{wanted, order, required, further_of, date_parts, later, parts_of}
+use Rattle.message.specs.Meaning.{wanted, required, further_of, date_parts, later, parts_of}
 use Rattle.message.specs.declared.kinds.Message.{Message}
 use Rattle.message.specs.declared.kinds.Body.TheVariants as body
 use Rattle.message.specs.declared.kinds.Periods.{Periods}

@@ -1,6 +1,5 @@
 -- A line leads from a state to one other at most.
-use Rattle.std.proofs.Common.{◌≡◌, ℕ, ◌+◌, ◌<◌, ◌≤◌, Bool, true, false, List, [], ◌∷◌, ◌++◌, Some, sym, refl, ap, ◌∙◌, subst, arith}
-use Rattle.fault.specs.declared.kinds.Property.{Property}
+use Rattle.std.proofs.Common.{◌≡◌, ℕ, false, List, [], ◌∷◌, ◌++◌, sym, refl, ap, ◌∙◌, arith}
 use Rattle.lines.specs.Content.{Content}
 use Rattle.property.specs.Values.{Part, Says, property_of}
 use Rattle.property.proofs.Laws.{one_part}

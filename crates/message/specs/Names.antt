@@ -1,5 +1,5 @@
 -- The names of lines.
-use Rattle.std.specs.Prelude.{ℕ, Bool, cond, List, codes}
+use Rattle.std.specs.Prelude.{ℕ, cond, List, codes}
 use Rattle.std.specs.Str.{bytes_eq}
 use Rattle.fault.specs.declared.kinds.Property.{Property}
 use Rattle.fault.specs.declared.kinds.Property.TheVariants as property

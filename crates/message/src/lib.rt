@@ -1,4 +1,6 @@
 // Messages (iTIP, RFC 5546): the record of a message, and the reader of texts.
+#![tactic(auto)]
+
 ghost use Rattle.message.specs.Grammar.{Reads, Alone};
 
 mod events;

@@ -1,5 +1,5 @@
 -- What a property says, and how it is written: a line is the property's name and its text, which begins with `:` or `;`.
-use Rattle.std.specs.Prelude.{◌≡◌, ℕ, ◌<◌, ◌≤◌, true, List, [], ◌∷◌, ◌++◌, length, take, Some, None, codes, Option, slice_index}
+use Rattle.std.specs.Prelude.{◌≡◌, ℕ, ◌<◌, ◌≤◌, true, List, ◌∷◌, ◌++◌, length, take, Some, None, codes, Option, slice_index}
 use Rattle.fault.specs.declared.kinds.Property.{Property}
 use Rattle.fault.specs.declared.kinds.Property.TheVariants as property
 use Rattle.stamp.specs.declared.civil.Stamp.{Stamp}
@@ -9,7 +9,6 @@ use Rattle.property.specs.declared.kinds.Meeting.{Meeting}
 use Rattle.property.specs.declared.kinds.Door.{Door}
 use Rattle.property.specs.declared.kinds.Answer.{Answer}
 use Rattle.property.specs.declared.kinds.Answer.TheVariants.{Accepted, Declined, Tentative}
-use Rattle.property.specs.declared.kinds.Heard.{Heard}
 use Rattle.property.specs.declared.kinds.Attendee.{Attendee}
 use Rattle.property.specs.declared.kinds.Attendee.TheVariants.{Invited, Answering}
 use Rattle.property.specs.declared.kinds.Title.{Title}

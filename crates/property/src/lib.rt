@@ -1,4 +1,5 @@
 // The properties of a text: what each says, in types, and how it is read.
+#![tactic(auto)]
 
 mod attendees;
 mod digits;

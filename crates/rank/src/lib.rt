@@ -1,4 +1,6 @@
 // Ranks: which of two is newer, and keeping the newer, written once for every kind of thing that has a rank.
+#![tactic(auto)]
+
 ghost use Rattle.std.specs.Prelude.{◌≡◌, ℕ, ◌⊎◌, List, [], ◌∷◌, Decides};
 ghost use Rattle.rank.specs.Order.{Newer, Kept};
 ghost use Rattle.std.proofs.Common.{rules};

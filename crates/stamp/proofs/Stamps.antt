@@ -1,10 +1,10 @@
 -- A stamp has one text, and a text is of one stamp.
-use Rattle.std.proofs.Common.{◌≡◌, ℕ, ◌+◌, ◌-◌, ◌*◌, ◌/◌, ◌%◌, ◌<◌, ◌≤◌, List, [], ◌∷◌, ◌++◌, Some, None, Option, sym, refl, ap, ◌∙◌, arith, MatchOption}
+use Rattle.std.proofs.Common.{◌≡◌, ℕ, ◌+◌, ◌-◌, ◌/◌, ◌%◌, ◌<◌, ◌≤◌, List, Some, None, Option, sym, ap, ◌∙◌, arith, MatchOption}
 use Rattle.stamp.specs.declared.civil.Stamp.{Stamp}
 use Rattle.stamp.specs.declared.civil.Day.{Day}
 use Rattle.stamp.specs.declared.civil.Time.{Time}
-use Rattle.stamp.specs.Calendar.{two, year_length, month_length, days_of_years, days_of_months}
-use Rattle.stamp.specs.Stamps.{days_to, seconds_to, seconds_at, day_text, time_text, shaped, placed, Shape, Stamped, Real, Read, Written}
+use Rattle.stamp.specs.Calendar.{two, year_length, month_length, days_of_months}
+use Rattle.stamp.specs.Stamps.{days_to, seconds_at, day_text, time_text, shaped, placed, Shape, Stamped, Real, Read, Written}
 use Rattle.stamp.proofs.Sums.{one_place, within_year, within_century}
 use Rattle.stamp.proofs.Texts.{two_same, all_placed}
 

@@ -1,9 +1,9 @@
 -- Running sums, which place a day in its month and a month in its year.
-use Rattle.std.proofs.Common.{◌≡◌, ℕ, zero, suc, ◌+◌, ◌-◌, ◌*◌, ◌/◌, ◌%◌, ◌<◌, ◌≤◌, cond, eqb, sym, refl, ap, ◌∙◌, add-one, arith}
+use Rattle.std.proofs.Common.{◌≡◌, ℕ, zero, suc, ◌+◌, ◌-◌, ◌*◌, ◌/◌, ◌<◌, ◌≤◌, refl, add-one, arith}
 use Rattle.std.proofs.lemmas.Bool.Decides.{nat_tests}
 use Rattle.stamp.specs.declared.civil.Day.{Day}
 use Rattle.stamp.specs.Stamps.{days_to}
-use Rattle.stamp.specs.Calendar.{sum_below, year_length, month_length, days_of_years, days_of_months, leap}
+use Rattle.stamp.specs.Calendar.{sum_below, year_length, month_length, days_of_years, days_of_months}
 
 pub sum_none : (f : ℕ → ℕ) → sum_below f 0 ≡ 0
 unfolding sum_below

@@ -1,5 +1,5 @@
 -- Digits by place: what two texts of equal bytes have in common.
-use Rattle.std.proofs.Common.{◌≡◌, ℕ, zero, suc, ◌+◌, ◌-◌, ◌*◌, ◌/◌, ◌%◌, ◌<◌, ◌≤◌, List, [], ◌∷◌, ◌++◌, length, get_or, drop, Some, None, Option, sym, refl, ap, ◌∙◌, zero-add, arith, drop_of_length-le, drop-cons, MatchOption}
+use Rattle.std.proofs.Common.{◌≡◌, ℕ, zero, suc, ◌+◌, ◌*◌, ◌/◌, ◌%◌, ◌<◌, List, [], ◌∷◌, length, get_or, drop, Some, None, Option, sym, ap, ◌∙◌, zero-add, arith, drop_of_length-le, drop-cons, MatchOption}
 use native.Mathlib.Nat.{div-add-mod}
 use Rattle.stamp.specs.declared.civil.Day.{Day}
 use Rattle.stamp.specs.declared.civil.Time.{Time}

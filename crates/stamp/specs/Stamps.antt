@@ -1,5 +1,5 @@
 -- A stamp: a count of seconds from 2000-01-01T00:00:00Z on, and its text YYYYMMDDTHHMMSSZ.
-use Rattle.std.specs.Prelude.{◌≡◌, ℕ, zero, suc, ◌+◌, ◌-◌, ◌*◌, ◌/◌, ◌%◌, ◌<◌, ◌≤◌, max, List, [], ◌∷◌, ◌++◌, length, replicate, Some, None, Ok, Err, Option, Result, slice_index, slice_index_or}
+use Rattle.std.specs.Prelude.{◌≡◌, ℕ, zero, suc, ◌+◌, ◌-◌, ◌*◌, ◌/◌, ◌%◌, ◌≤◌, max, List, [], ◌∷◌, ◌++◌, length, replicate, Some, None, Ok, Err, Option, Result, slice_index, slice_index_or}
 use Rattle.fault.specs.declared.kinds.Cause.TheVariants.{Range, Spent}
 use Rattle.fault.specs.declared.kinds.Fault.{Fault}
 use Rattle.fault.specs.declared.kinds.Layer.TheVariants.{Engine}

@@ -1,4 +1,6 @@
 // Stamps: seconds of the years 2000 to 2099, and their texts YYYYMMDDTHHMMSSZ.
+#![tactic(auto)]
+
 ghost use Rattle.std.specs.Prelude.{◌≡◌, ℕ, ◌+◌, ◌<◌, ◌≤◌, max, replicate, Some, None, Decides, MatchOption};
 ghost use Rattle.stamp.specs.Stamps.{Stamped, Real, Apart, seconds_at, Read, Written, Rewritten, Fresh};
 

@@ -1,5 +1,5 @@
 -- Rows by their keys, and what a store means.
-use Rattle.std.specs.Prelude.{◌≡◌, ℕ, zero, suc, ◌+◌, ◌<◌, ◌≤◌, true, false, cond, List, [], ◌++◌, length, drop, is_some, Some, None, Ok, Err, Option, Result, ◌≢◌}
+use Rattle.std.specs.Prelude.{◌≡◌, ℕ, zero, suc, ◌+◌, ◌<◌, ◌≤◌, cond, List, [], ◌++◌, length, drop, is_some, Some, None, Ok, Err, Option, Result, ◌≢◌}
 use Rattle.fault.specs.declared.kinds.Cause.TheVariants.{Range, StoreFull, Short}
 use Rattle.fault.specs.declared.kinds.Fault.{Fault}
 use Rattle.fault.specs.declared.kinds.Layer.TheVariants.{Store}

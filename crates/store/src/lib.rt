@@ -1,4 +1,6 @@
 // Stores: rows by their keys.
+#![tactic(auto)]
+
 mod entries;
 mod entry;
 mod logs;

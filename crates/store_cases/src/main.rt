@@ -1,4 +1,6 @@
 // Many cases of stores: a line of the input makes a store or calls one of its functions, and the line that is printed ends with the answer.
+#![tactic(auto)]
+
 mod calls;
 mod made;
 

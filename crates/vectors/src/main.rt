@@ -1,4 +1,6 @@
 // Many cases of texts: a line of the input makes a text and has it read, or has a message written, and the line that is printed ends with the answer.
+#![tactic(auto)]
+
 mod answers;
 mod bases;
 mod cases;

@@ -1,5 +1,7 @@
 // A floor's week, as far as it goes: revisions of one meeting travel to door 2 by mail that reorders, doubles and loses.
 // The door keeps the newest in its log, and the statement says what was sent, what came, what was kept, and what was refused.
+#![tactic(auto)]
+
 mod arrivals;
 mod door;
 

@@ -1,12 +1,12 @@
 -- What was read is in its ranges.
-use Rattle.std.proofs.Common.{◌≡◌, ℕ, ◌≤◌, Bool, List, [], ◌∷◌, ◌++◌, Some, None, Option, sym, refl, ap, ◌∙◌, subst}
+use Rattle.std.proofs.Common.{◌≡◌, ℕ, Bool, List, [], ◌∷◌, ◌++◌, Some, None, sym, subst}
 use Rattle.stamp.proofs.Stamps.{real}
 use Rattle.lines.specs.Content.{Content}
 use Rattle.property.specs.declared.kinds.Attendee.{Attendee}
 use Rattle.property.specs.declared.kinds.Attendee.TheVariants.{Invited, Answering}
 use Rattle.property.specs.Values.{Part, uid, dtstamp, sequence, organizer, attendee, summary, dtstart, dtend, rdate, status, basis, Says, AttendeeText}
 use Rattle.message.specs.declared.kinds.Message.{Message}
-use Rattle.message.specs.Grammar.{State, calendar, version, product, method, event, inside, closing, done, Inside, skips, adds, ends, Step, Leads, Led, Means}
+use Rattle.message.specs.Grammar.{State, calendar, version, product, method, event, inside, closing, done, skips, adds, ends, Step, Leads, Means}
 use Rattle.writer.specs.Putting.{Ranged, AttendeeRanged}
 use Rattle.writer.specs.Writing.{AllRanged, InRange}
 use Rattle.writer.proofs.Ordered.{ranged_more}

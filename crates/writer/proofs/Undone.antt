@@ -1,13 +1,13 @@
 -- Reading undoes writing, and writing undoes reading.
-use Rattle.std.proofs.Common.{◌≡◌, ℕ, ◌<◌, ◌≤◌, true, false, List, length, take, Some, None, Ok, Err, Option, Result, sym, refl, ap, ◌∙◌, subst, arith}
+use Rattle.std.proofs.Common.{◌≡◌, ℕ, ◌≤◌, true, false, List, take, Some, None, Ok, Err, Option, Result, sym, ◌∙◌, subst, arith}
 use Rattle.fault.specs.declared.kinds.Fault.{Fault}
 use Rattle.message.specs.declared.kinds.Message.{Message}
-use Rattle.message.specs.Grammar.{Means, Same, Alone}
+use Rattle.message.specs.Grammar.{Means, Alone}
 use Rattle.message.proofs.House.{one_house, any_house}
 use Rattle.writer.specs.Writing.{Writ, Writes, NotWritten, short, range, Rereads, Rewrites, Rewritten, NotRewritten}
 use Rattle.writer.specs.Writing as writing
 use Rattle.writer.specs.Writing.{RereadsValue, RewritesValue}
-use Rattle.writer.specs.Putting.{Ranged, Put, Puts, widest}
+use Rattle.writer.specs.Putting.{Ranged, Puts, widest}
 use Rattle.property.specs.Values.{Part, part_of, property_of, Says}
 use Rattle.property.specs.Values.{Reads as ReadsText}
 use Rattle.property.specs.declared.kinds.Value.{Value}

@@ -1,15 +1,14 @@
 -- Lines that are put one behind another, and lead on.
-use Rattle.std.proofs.Common.{◌≡◌, ℕ, zero, suc, ◌+◌, ◌<◌, ◌≤◌, true, false, List, [], ◌∷◌, ◌++◌, length, get_or, take, drop, Some, codes, sym, refl, ap, ◌∙◌, subst, arith}
+use Rattle.std.proofs.Common.{◌≡◌, ℕ, ◌+◌, ◌≤◌, true, List, [], ◌∷◌, ◌++◌, length, get_or, take, drop, Some, codes, sym, refl, ap, ◌∙◌, subst, arith}
 use Rattle.std.specs.List.{flat_map, slice_get}
 use Rattle.std.proofs.lemmas.List.{append_assoc, append-nil, length-take-le, take_all}
-use Rattle.lines.specs.Content.{Content, Fit, closed, bytes_of}
-use Rattle.lines.specs.Steps.{Sized}
+use Rattle.lines.specs.Content.{Content, Fit, closed}
 use Rattle.property.specs.Values.{Part, property_of}
 use Rattle.message.specs.declared.kinds.Message.{Message}
 use Rattle.message.specs.declared.kinds.Method.{Method}
 use Rattle.message.specs.declared.kinds.Method.TheVariants.{Request, Cancel, Reply}
 use Rattle.message.specs.Meaning.{wanted, required, belongs, parts_of, method_of}
-use Rattle.message.specs.Grammar.{State, calendar, version, product, method, event, inside, closing, done, adds, ends, Step, Leads, AllFit, Led, Means}
+use Rattle.message.specs.Grammar.{State, calendar, version, product, method, event, inside, closing, done, adds, ends, Leads, AllFit, Means}
 use Rattle.writer.proofs.Ordered.{placed, ordered, enough}
 use Rattle.writer.specs.Putting.{Put, PutLine, line_of, longest}
 use Rattle.writer.specs.Writing.{Wrote, head, foot, frame, room}

@@ -1,5 +1,5 @@
 -- What writing into a buffer does.
-use Rattle.std.specs.Prelude.{◌≡◌, ℕ, ◌+◌, ◌-◌, ◌≤◌, List, [], ◌∷◌, ◌++◌, length, take, drop, Some, None, Option}
+use Rattle.std.specs.Prelude.{◌≡◌, ℕ, ◌+◌, ◌-◌, ◌≤◌, List, ◌++◌, length, take, drop, Some, None, Option}
 use Rattle.fault.specs.declared.kinds.Property.{Property}
 use Rattle.fault.specs.declared.kinds.Property.TheVariants as property
 use Rattle.stamp.specs.Stamps.{Real}
@@ -8,8 +8,7 @@ use Rattle.property.specs.declared.kinds.Door.{Door}
 use Rattle.property.specs.declared.kinds.Heard.{Heard}
 use Rattle.property.specs.declared.kinds.Attendee.{Attendee}
 use Rattle.property.specs.declared.kinds.Attendee.TheVariants.{Invited, Answering}
-use Rattle.property.specs.declared.kinds.Value.{Value}
-use Rattle.property.specs.Values.{Part, uid, dtstamp, sequence, organizer, attendee, summary, dtstart, dtend, rdate, status, basis, part_of, property_of, name_text, Says, TitleText, ReplyText, shown_text}
+use Rattle.property.specs.Values.{Part, uid, dtstamp, sequence, organizer, attendee, summary, dtstart, dtend, rdate, status, basis, property_of, name_text, Says, TitleText, ReplyText, shown_text}
 
 -- bytes are put in place of those that stood at a place, and nothing else changes
 pub record Put (old new bytes : List ℕ) (from to : ℕ) : Type 0 where

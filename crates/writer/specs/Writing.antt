@@ -1,5 +1,5 @@
 -- What writing a message answers.
-use Rattle.std.specs.Prelude.{◌≡◌, ℕ, ◌+◌, ◌<◌, ◌≤◌, true, false, List, [], ◌∷◌, ◌++◌, length, take, drop, Some, None, Ok, Err, codes, Option, Result}
+use Rattle.std.specs.Prelude.{◌≡◌, ℕ, ◌+◌, ◌<◌, ◌≤◌, true, false, List, [], ◌∷◌, length, take, drop, Some, None, Ok, Err, codes, Option, Result}
 use Rattle.std.specs.List.{flat_map}
 use Rattle.fault.specs.declared.kinds.Cause.TheVariants.{Short, Range}
 use Rattle.fault.specs.declared.kinds.Fault.{Fault}

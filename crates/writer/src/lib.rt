@@ -1,4 +1,6 @@
 // The writer of texts: a message record as its one house text.
+#![tactic(auto)]
+
 mod attendees;
 mod digits;
 mod numbers;

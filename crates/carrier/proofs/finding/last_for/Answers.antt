@@ -1,4 +1,4 @@
-use Rattle.std.proofs.Common.{◌-◌, ◌<◌, map, length, sym, ◌∙◌, arith}
+use Rattle.std.proofs.Common.{◌-◌, map, sym, ◌∙◌, arith}
 use Rattle.std.proofs.lemmas.List.{length-map}
 use Rattle.carrier.specs.Queues.{letter_in, for_at}
 use Rattle.carrier.specs.Places.{for_read, for_past, none_for, above_more}

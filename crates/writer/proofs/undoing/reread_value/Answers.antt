@@ -1,6 +1,6 @@
 use Rattle.std.proofs.Common.{◌≡◌, ◌-◌, take, refl, ap, arith}
 use Rattle.property.specs.Values.{part_of}
-use Rattle.writer.proofs.Undone.{value_read_back, narrow}
+use Rattle.writer.proofs.Undone.{value_read_back}
 use Rattle.writer.proofs.undoing.reread_value.Goals as goal
 
 pub returns : goal.returns

@@ -1,4 +1,4 @@
-use Rattle.std.proofs.Common.{◌≡◌, ◌-◌, vec_items, sym, refl, ◌∙◌, arith}
+use Rattle.std.proofs.Common.{◌-◌, vec_items, sym, refl, ◌∙◌, arith}
 use Rattle.store.specs.Rows.{NotSet}
 use Rattle.store.specs.Keeping.{put_again, put_new, no_row}
 use Rattle.store.proofs.logs.LogStore.put.Goals as goal

@@ -1,4 +1,4 @@
-use Rattle.std.proofs.Common.{◌≡◌, List, sym, ap, ◌∙◌, arith}
+use Rattle.std.proofs.Common.{List, sym, ap, ◌∙◌, arith}
 use Rattle.store.specs.declared.entry.Entry.{Entry}
 use Rattle.store.specs.Rows.{held_in}
 use Rattle.store.specs.Entries.{row_in}

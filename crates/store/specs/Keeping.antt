@@ -1,12 +1,15 @@
 -- What a put leaves, whichever way the row is written, and what every list of entries keeps.
-use Rattle.std.specs.Prelude.{◌≡◌, ℕ, ◌+◌, ◌<◌, ◌≤◌, Bool, true, false, cond, List, [], ◌∷◌, ◌++◌, length, drop, Some, None, Ok, Err, Option, Result, ◌==◌, slice_index_or, refl}
+use Rattle.std.specs.Prelude.{◌≡◌, ℕ, ◌+◌, ◌-◌, ◌<◌, ◌≤◌, Bool, true, false, cond, List, [], ◌∷◌, ◌++◌, length, drop, Some, None, Ok, Err, Option, Result, ◌==◌, slice_index_or, refl}
 use Rattle.std.proofs.Common.{ap, subst, ◌∙◌, arith, length-take}
 use Rattle.std.proofs.lemmas.List.{get_or_default}
 use Rattle.std.proofs.lemmas.Bool.Decides.{nat_tests}
 use Rattle.fault.specs.declared.kinds.Fault.{Fault}
 use Rattle.store.specs.declared.entry.Entry.{Entry}
+use Rattle.store.specs.declared.stores.Log.{Log}
+use Rattle.store.specs.declared.stores.Table.{Table}
 use Rattle.store.specs.Rows.{Rows, Fit, Sound, Sets, NotGot, Got, Kept, bytes_of, held_in}
 use Rattle.store.specs.Entries.{bytes_in, later, says, row_in, Newest, Wrote}
+use Rattle.store.specs.Stores.{table_rows, log_rows}
 use Rattle.store.specs.Held.{held_again, held_more}
 use Rattle.store.specs.Newest.{row_none, row_some}
 
@@ -56,6 +59,12 @@ fit_rows (e ∷ es) k bytes h = fit_later e k bytes (row_in es k) (fit_rows es k
 
 pub kept_sound : (es : List Entry) (n : ℕ) → held_in (row_in es) ≤ n → Sound (kept es n)
 kept_sound es n h = record { within = h; fit = fit_rows es }
+
+pub table_sound : (t : Table) → Sound (table_rows t)
+table_sound t = kept_sound t.entries.items t.room (omega (arith, t.apart, t.within))
+
+pub log_sound : (l : Log) → Sound (log_rows l)
+log_sound l = kept_sound l.entries.items (l.room - 1) (omega (arith, l.apart, l.within))
 
 -- a row that was put comes back
 not_refused : (key : ℕ) (bytes old : List ℕ) (f : Fault) → Fit key bytes → 192 ≤ length old → NotGot key old f → ⊥

@@ -1,7 +1,6 @@
 // The log: a row's successor is written whole before the row is given up.
 ghost use Rattle.store.specs.Stores.{log_rows, MakesLog};
-ghost use Rattle.std.proofs.Common.{arith};
-ghost use Rattle.store.specs.Keeping.{kept_sound};
+ghost use Rattle.store.specs.Keeping.{log_sound};
 
 use crate::entries::{check_row, find, get_from};
 use crate::entry::{Entry, Key};
@@ -30,7 +29,7 @@ impl Log {
 impl Store for Log {
     ghost rows = { log_rows };
 
-    ghost sound = { λ s. kept_sound s.entries.items _ (omega (arith, s.apart, s.within)) };
+    ghost sound = { log_sound };
 
     fn put(&mut self, key: Key, row: &[u8]) -> Result<(), Fault> {
         check_row(key, row)?;

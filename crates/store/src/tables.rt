@@ -1,7 +1,6 @@
 // The table: each row in a place of its own, overwritten there.
 ghost use Rattle.store.specs.Stores.{table_rows, MakesTable};
-ghost use Rattle.std.proofs.Common.{arith};
-ghost use Rattle.store.specs.Keeping.{kept_sound};
+ghost use Rattle.store.specs.Keeping.{table_sound};
 
 use crate::entries::{check_row, find, get_from};
 use crate::entry::{Entry, Key};
@@ -30,7 +29,7 @@ impl Table {
 impl Store for Table {
     ghost rows = { table_rows };
 
-    ghost sound = { λ s. kept_sound s.entries.items _ (omega (arith, s.apart, s.within)) };
+    ghost sound = { table_sound };
 
     fn put(&mut self, key: Key, row: &[u8]) -> Result<(), Fault> {
         check_row(key, row)?;

@@ -60,6 +60,7 @@ fit_rows (e ∷ es) k bytes h = fit_later e k bytes (row_in es k) (fit_rows es k
 pub kept_sound : (es : List Entry) (n : ℕ) → held_in (row_in es) ≤ n → Sound (kept es n)
 kept_sound es n h = record { within = h; fit = fit_rows es }
 
+-- what a table and a log keep by their types is what every store keeps
 pub table_sound : (t : Table) → Sound (table_rows t)
 table_sound t = kept_sound t.entries.items t.room (omega (arith, t.apart, t.within))
 

@@ -1,5 +1,5 @@
 -- The numbers by which faults, layers and properties are known in formats and documents, and the layer to which a fault belongs.
-use Rattle.std.specs.Prelude.{ℕ, None, Option}
+use Rattle.std.specs.Prelude.{ℕ, Some, None, Option}
 use Rattle.fault.specs.declared.kinds.Cause.{Cause}
 use Rattle.fault.specs.declared.kinds.Cause.TheVariants.{Line, Frame, Method, Malformed, Misdirected, Unknown, Stale, Ahead, Dates, Range, Taken, Over, Spent, StoreFull, CarrierFull, Short, NoMail, Unfinished, NoAnswer, Unreadable}
 use Rattle.fault.specs.declared.kinds.Layer.{Layer}
@@ -77,11 +77,11 @@ layer_for tester Unreadable = Engine
 
 -- the fault of a cause, found by a layer, that names no line and no property
 abbrev pub told : Layer → Cause → Fault
-told tester cause = record { cause = cause; layer = layer_for tester cause; line = 0; property = None }
+told tester cause = record { cause = cause; layer = layer_for tester cause; line = None; property = None }
 
 -- the same fault, at a line of a text
 abbrev pub at_line : Fault → ℕ → Fault
-at_line f n = record { cause = f.cause; layer = f.layer; line = n; property = f.property }
+at_line f n = record { cause = f.cause; layer = f.layer; line = Some n; property = f.property }
 
 -- the same fault, where a property was wanted, or none might stand
 abbrev pub wanting : Fault → Option Property → Fault

@@ -3,6 +3,8 @@ use Rattle.std.specs.Prelude.{ℕ, List, ◌++◌, Some, None, codes, decimal, O
 use Rattle.fault.specs.declared.kinds.Cause.{Cause}
 use Rattle.fault.specs.declared.kinds.Cause.TheVariants.{Line, Frame, Method, Malformed, Misdirected, Unknown, Stale, Ahead, Dates, Range, Taken, Over, Spent, StoreFull, CarrierFull, Short, NoMail, Unfinished, NoAnswer, Unreadable}
 use Rattle.fault.specs.declared.kinds.Fault.{Fault}
+use Rattle.fault.specs.declared.kinds.NotMade.{NotMade}
+use Rattle.fault.specs.declared.kinds.NotMade.TheVariants.{Refused, Memory}
 use Rattle.fault.specs.declared.kinds.Property.{Property}
 use Rattle.fault.specs.Numbers.{cause_number, layer_number, property_number}
 
@@ -33,6 +35,16 @@ abbrev pub property_or0 : Option Property → ℕ
 property_or0 None = 0
 property_or0 (Some p) = property_number p
 
+-- the line of a fault, 0 where it is about none
+abbrev pub line_or0 : Option ℕ → ℕ
+line_or0 None = 0
+line_or0 (Some n) = n
+
 -- `fault NUMBER LAYER LINE PROPERTY: words`
 abbrev pub printed : Fault → List ℕ
-printed f = codes "fault " ++ (decimal (cause_number f.cause) ++ (codes " " ++ (decimal (layer_number f.layer) ++ (codes " " ++ (decimal f.line ++ (codes " " ++ (decimal (property_or0 f.property) ++ (codes ": " ++ wording f.cause))))))))
+printed f = codes "fault " ++ (decimal (cause_number f.cause) ++ (codes " " ++ (decimal (layer_number f.layer) ++ (codes " " ++ (decimal (line_or0 f.line) ++ (codes " " ++ (decimal (property_or0 f.property) ++ (codes ": " ++ wording f.cause))))))))
+
+-- why a thing was not made: its fault, or that memory is short
+abbrev pub printed_not_made : NotMade → List ℕ
+printed_not_made (Refused f) = printed f
+printed_not_made Memory = codes "no memory"

@@ -1,83 +1,83 @@
-// What a fault is made of. The numbers by which these are known are in specs/Numbers.antt.
+// What a fault is made of. The number by which each cause, layer and property is known stands with its name.
 
 // Why a call refused what it was given.
 #[derive(Clone, Copy, PartialEq, Eq, Debug)]
 pub enum Cause {
     // A line that is no content line, or a text of a bad length.
-    Line,
+    Line = 1,
     // A line of the calendar's frame that is missing or out of its place.
-    Frame,
+    Frame = 2,
     // A method that is none of REQUEST, CANCEL and REPLY.
-    Method,
+    Method = 3,
     // A property that is missing, damaged or out of its place.
-    Malformed,
+    Malformed = 4,
     // A text that is not for this end: its kind or its ATTENDEE.
-    Misdirected,
+    Misdirected = 5,
     // A meeting, door or copy that is not known here.
-    Unknown,
+    Unknown = 6,
     // A text that is older than what is held.
-    Stale,
+    Stale = 7,
     // A text that claims more than was ever sent.
-    Ahead,
+    Ahead = 8,
     // A date, or a list of dates, that breaks the rule of dates.
-    Dates,
+    Dates = 9,
     // A value outside its range.
-    Range,
+    Range = 10,
     // A meeting number that is in use.
-    Taken,
+    Taken = 11,
     // A meeting that is over.
-    Over,
+    Over = 12,
     // No stamp, or no SEQUENCE, is left.
-    Spent,
+    Spent = 13,
     // No room in the store.
-    StoreFull,
+    StoreFull = 14,
     // No room in the carrier.
-    CarrierFull,
+    CarrierFull = 15,
     // A buffer that is too short.
-    Short,
+    Short = 16,
     // Nothing waits for the address.
-    NoMail,
+    NoMail = 17,
     // A draft without a door, or without a date.
-    Unfinished,
+    Unfinished = 18,
     // There is no answer to repeat.
-    NoAnswer,
+    NoAnswer = 19,
     // A row that cannot be read.
-    Unreadable,
+    Unreadable = 20,
 }
 
 // Where in the program a fault belongs.
 #[derive(Clone, Copy, PartialEq, Eq, Debug)]
 pub enum Layer {
-    Lines,
-    Framing,
-    Properties,
-    Engine,
-    Store,
-    Carrier,
+    Lines = 1,
+    Framing = 2,
+    Properties = 3,
+    Engine = 4,
+    Store = 5,
+    Carrier = 6,
 }
 
 // The properties of a text, in the order in which they stand there. Basis is X-BASIS, the DTSTAMP of the revision that an answer is for.
 #[derive(Clone, Copy, PartialEq, Eq, Debug)]
 pub enum Property {
-    Uid,
-    Dtstamp,
-    Sequence,
-    Organizer,
-    Attendee,
-    Summary,
-    Dtstart,
-    Dtend,
-    Rdate,
-    Status,
-    Basis,
+    Uid = 1,
+    Dtstamp = 2,
+    Sequence = 3,
+    Organizer = 4,
+    Attendee = 5,
+    Summary = 6,
+    Dtstart = 7,
+    Dtend = 8,
+    Rdate = 9,
+    Status = 10,
+    Basis = 11,
 }
 
-// A refusal: why, where, and what in a text it is about. A line counts from 1, and 0 stands for none.
+// A refusal: why, where, and what in a text it is about, if it is about one. A line counts from 1.
 #[derive(Clone, Copy, PartialEq, Eq, Debug)]
 pub struct Fault {
     pub cause: Cause,
     pub layer: Layer,
-    pub line: u32,
+    pub line: Option<u32>,
     pub property: Option<Property>,
 }
 

@@ -37,10 +37,7 @@ impl Ranked for Revision {
     ghost level = { Prim.search rules };
 
     fn is_newer(&self, than: &Revision) -> bool {
-        if self.sequence.number != than.sequence.number {
-            return self.sequence.number > than.sequence.number;
-        }
-        self.dtstamp.seconds > than.dtstamp.seconds
+        self > than
     }
 }
 
@@ -56,13 +53,7 @@ impl Ranked for AnswerRank {
     ghost level = { Prim.search rules };
 
     fn is_newer(&self, than: &AnswerRank) -> bool {
-        if self.sequence.number != than.sequence.number {
-            return self.sequence.number > than.sequence.number;
-        }
-        if self.stamp.seconds != than.stamp.seconds {
-            return self.stamp.seconds > than.stamp.seconds;
-        }
-        self.basis.seconds > than.basis.seconds
+        self > than
     }
 }
 

@@ -3,7 +3,7 @@ ghost use Rattle.std.specs.Prelude.{◌≤◌};
 ghost use Rattle.stamp.specs.Calendar.{month_length};
 
 // Seconds from 2000-01-01T00:00:00Z on. A stamp is one from 1 to 3,155,759,999; 0 stands for none.
-#[derive(Clone, Copy, PartialEq, Eq, Debug)]
+#[derive(Clone, Copy, PartialEq, Eq, PartialOrd, Ord, Debug)]
 pub struct Stamp {
     pub seconds: u32,
 }

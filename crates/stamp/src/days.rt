@@ -52,10 +52,10 @@ impl Day {
     pub fn new(year: u32, month: u32, day: u32) -> Option<Day>
         ensures { MatchOption result ((d : Day) → d.year ≡ year → d.month ≡ month → d.day ≢ day) (λ d. (d.year ≡ year) × (d.month ≡ month) × (d.day ≡ day)) }
     {
-        if year < 2000 || year > 2099 || month < 1 || month > 12 {
+        if !(2000..=2099).contains(&year) || !(1..=12).contains(&month) {
             return None;
         }
-        if day < 1 || day > month_length(year, month) {
+        if !(1..=month_length(year, month)).contains(&day) {
             return None;
         }
         Some(Day { year, month, day })

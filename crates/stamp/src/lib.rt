@@ -23,7 +23,7 @@ impl Stamp {
     pub fn is_real(self) -> bool
         ensures { Decides result (Real self.seconds) }
     {
-        1 <= self.seconds && self.seconds <= LAST
+        (1..=LAST).contains(&self.seconds)
     }
 
     // The stamp that a text writes, or none where no stamp has this text.
@@ -142,8 +142,6 @@ pub fn reread(stamp: Stamp) -> Option<Stamp>
 pub fn rewrite(text: &[u8]) -> Option<[u8; 16]>
     ensures { Rewritten text.now result }
 {
-    match Stamp::read(text) {
-        Some(stamp) => Some(stamp.text()),
-        None => None,
-    }
+    let stamp = Stamp::read(text)?;
+    Some(stamp.text())
 }

@@ -28,6 +28,7 @@ fn month_length(year: u32, month: u32) -> u32
 }
 
 // The days of the first n years from 2000 on: every fourth, from the first, is a leap year.
+#[tactic(auto, using(crate::proofs::Sums::years_closed))]
 fn days_of_years(n: u32) -> u32
     requires { n ≤ 100 }
     ensures { result ≡ days_of_years n }
@@ -62,6 +63,7 @@ impl Day {
     }
 
     // The days from 2000-01-01 to this day.
+    #[tactic(auto, using(crate::proofs::Sums::within_century))]
     pub fn count(self) -> u32
         ensures value { result ≡ days_to self }
         ensures bound { result < 36525 }
@@ -70,6 +72,7 @@ impl Day {
     }
 
     // The day that so many days lead to from 2000-01-01. Four years in a row have 1,461 days.
+    #[tactic(auto, using(crate::proofs::Sums::year_found))]
     pub fn after(days: u32) -> Day
         requires { days < 36525 }
         ensures { days_to result ≡ days }

@@ -15,6 +15,10 @@ split_at a b xs h =
 pub regroup : (l : Content) (rest : List ℕ) → closed l ++ rest ≡ l.name ++ (l.text ++ (13 ∷ (10 ∷ rest)))
 regroup l rest = append_assoc (bytes_of l) (13 ∷ (10 ∷ [])) rest ∙ append_assoc l.name l.text (13 ∷ (10 ∷ rest))
 
+-- what holds at each place counted from one on holds at each place from there
+pub every_from : (P : ℕ → Bool) (xs : List ℕ) (i j : ℕ) → ((k : ℕ) → i + k < j → P (get_or xs (i + k) 0) ≡ true) → EveryFrom P xs i j
+every_from P xs i j all k h l = let e : i + (k - i) ≡ k = omega arith in ap (λ n. P (get_or xs n 0)) (sym e) ∙ all (k - i) (omega arith)
+
 -- the part of a text between two places
 abbrev pub part : ℕ → ℕ → List ℕ → List ℕ
 part a b xs = take (b - a) (drop a xs)
@@ -28,7 +32,7 @@ behind a b xs = between_is xs (a + 1) b ∙ sym (drop-drop 1 a (take b xs)) ∙ 
 length_part : (a b : ℕ) (xs : List ℕ) → a ≤ b → b ≤ length xs → length (part a b xs) ≡ b - a
 length_part a b xs h k = length-take-le (b - a) (drop a xs) (omega (arith, length-drop a xs))
 
-get_d_part : (a b k : ℕ) (xs : List ℕ) → k < b - a → get_or (part a b xs) k 0 ≡ get_or xs (a + k) 0
+pub get_d_part : (a b k : ℕ) (xs : List ℕ) → k < b - a → get_or (part a b xs) k 0 ≡ get_or xs (a + k) 0
 get_d_part a b k xs h = get_or-take (b - a) (drop a xs) k 0 h ∙ get_or-drop a xs k 0
 
 every_part : (P : ℕ → Bool) (a b : ℕ) (xs : List ℕ) → a ≤ b → b ≤ length xs → EveryFrom P xs a b → Every P (part a b xs)

@@ -2,6 +2,7 @@
 ghost use Rattle.std.specs.Prelude.{◌≤◌, length};
 
 // The bytes that a run is made of: those of a name, or all that may stand in a line.
+// An enum and no closure that tests a byte: what the closure says of each byte would have to be said again by a function for each class.
 #[derive(Clone, Copy)]
 pub enum Class {
     Naming,

@@ -18,6 +18,17 @@ impl Class {
         }
     }
 
+    // How many of these bytes a text begins with.
+    fn front(self, text: &[u8]) -> usize
+        ensures within { result ≤ length text.now }
+        ensures all { (k : ℕ) → k < result → in_class self (slice_index text.now k) ≡ true }
+        ensures ends { result < length text.now → in_class self (slice_index text.now result) ≡ false }
+    {
+        text.iter()
+            .position(|byte| !self.has(*byte))
+            .unwrap_or(text.len())
+    }
+
     // The place where a run of these bytes ends that begins at `at`.
     fn run(self, text: &[u8], at: usize) -> usize
         requires { at ≤ length text.now }
@@ -25,19 +36,14 @@ impl Class {
         ensures all { EveryFrom (in_class self) text.now at result }
         ensures ends { result < length text.now → in_class self (slice_index text.now result) ≡ false }
     {
-        for i in at..text.len() {
-            if !self.has(text[i]) {
-                return i;
-            }
-        }
-        text.len()
+        at + self.front(&text[at..])
     }
 }
 
 fn is_separator(byte: u8) -> bool
     ensures { result ≡ separates byte }
 {
-    byte == b':' || byte == b';'
+    matches!(byte, b':' | b';')
 }
 
 // The places of the separator and of the CR of the content line that begins at `at`, if one does.

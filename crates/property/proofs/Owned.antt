@@ -51,6 +51,12 @@ no_value make d p text r is none kind never =
 pub after : (mark text rest : List ℕ) (P : List ℕ → Type 0) → text ≡ mark ++ rest → After mark P text → P rest
 after mark text rest P e a = subst P (append_cancel_left mark a.0 rest (sym a.2 ∙ e)) a.1
 
-pub stamp_after : (mark text rest : List ℕ) (o : Option Stamp) → text ≡ mark ++ rest → Read rest o → MatchOption o ((s : Stamp) → After mark (Stamped s.seconds) text → ⊥) (λ s. After mark (Stamped s.seconds) text)
-stamp_after mark text rest None e none = λ s a. none s.seconds (after mark text rest (Stamped s.seconds) e a)
-stamp_after mark text rest (Some s) e read = (rest, read.stamped, e)
+-- what a reader answers of what follows a mark, of the whole text
+pub read_after : {V : Type 0} (says : V → List ℕ → Type 0) (mark text rest : List ℕ) (o : Option V) → text ≡ mark ++ rest → MatchOption o ((v : V) → says v rest → ⊥) (λ v. says v rest) → MatchOption o ((v : V) → After mark (says v) text → ⊥) (λ v. After mark (says v) text)
+read_after says mark text rest None e none = λ v a. none v (after mark text rest (says v) e a)
+read_after says mark text rest (Some v) e read = (rest, read, e)
+
+-- the stamp that was read is the one that has the text
+pub read_stamp : (text : List ℕ) (o : Option Stamp) → Read text o → MatchOption o ((s : Stamp) → Stamped s.seconds text → ⊥) (λ s. Stamped s.seconds text)
+read_stamp text None none = λ s t. none s.seconds t
+read_stamp text (Some s) read = read.stamped

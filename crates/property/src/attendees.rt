@@ -7,6 +7,7 @@ ghost use Rattle.property.specs.declared.kinds.Attendee.{Attendee};
 ghost use Rattle.property.specs.declared.kinds.Door.{Door};
 ghost use Rattle.property.specs.Values.{AttendeeText, DoorText, shown_text, answer_text};
 
+use crate::codecs::Text;
 use crate::kinds::{Answer, Attendee, Door, Heard};
 use crate::marks::strip;
 use crate::periods::read_front;
@@ -58,11 +59,11 @@ fn unheard(shown: Option<Answer>, door: Door) -> Attendee
     }
 }
 
-impl Attendee {
+impl Text for Attendee {
+    ghost says = { AttendeeText };
+
     // The attendee that a text names, with the answer there, or none.
-    pub(crate) fn read(text: &[u8]) -> Option<Attendee>
-        ensures { MatchOption result ((a : Attendee) → AttendeeText a text.now → ⊥) (λ a. AttendeeText a text.now) }
-    {
+    fn read(text: &[u8]) -> Option<Attendee> {
         let status = strip(text, b";PARTSTAT=")?;
         let (shown, rest) = read_shown(status)?;
         let Some(reply) = strip(rest, b";X-REPLY=") else {

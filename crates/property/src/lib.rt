@@ -2,6 +2,7 @@
 #![tactic(auto)]
 
 mod attendees;
+mod codecs;
 mod digits;
 mod kinds;
 mod marks;

@@ -1,10 +1,8 @@
 // The numbered things: meetings, doors and SEQUENCE.
-ghost use Rattle.std.specs.Prelude.{◌≤◌, Decides, MatchOption};
-ghost use Rattle.rank.specs.declared.kinds.Sequence.{Sequence};
-ghost use Rattle.property.specs.declared.kinds.Meeting.{Meeting};
-ghost use Rattle.property.specs.declared.kinds.Door.{Door};
+ghost use Rattle.std.specs.Prelude.{◌≤◌, Decides};
 ghost use Rattle.property.specs.Values.{MeetingText, DoorText, SequenceText};
 
+use crate::codecs::Text;
 use crate::digits::read_four;
 use crate::kinds::{Door, Meeting};
 use crate::marks::{is, strip};
@@ -15,13 +13,15 @@ impl Meeting {
     pub fn is_real(self) -> bool
         ensures { Decides result ((1 ≤ self.number) × (self.number ≤ 32)) }
     {
-        1 <= self.number && self.number <= 32
+        (1..=32).contains(&self.number)
     }
+}
+
+impl Text for Meeting {
+    ghost says = { MeetingText };
 
     // The meeting that a text names, or none.
-    pub(crate) fn read(text: &[u8]) -> Option<Meeting>
-        ensures { MatchOption result ((m : Meeting) → MeetingText m text.now → ⊥) (λ m. MeetingText m text.now) }
-    {
+    fn read(text: &[u8]) -> Option<Meeting> {
         let [a, b, c, d, tail @ ..] = strip(text, b"m")? else {
             return None;
         };
@@ -29,7 +29,7 @@ impl Meeting {
             return None;
         }
         let number = read_four(*a, *b, *c, *d)?;
-        if number < 1 || number > 32 {
+        if !(1..=32).contains(&number) {
             return None;
         }
         Some(Meeting {
@@ -43,20 +43,22 @@ impl Door {
     pub fn is_real(self) -> bool
         ensures { Decides result ((1 ≤ self.number) × (self.number ≤ 8)) }
     {
-        1 <= self.number && self.number <= 8
+        (1..=8).contains(&self.number)
     }
+}
+
+impl Text for Door {
+    ghost says = { DoorText };
 
     // The door that a text names as an address, or none.
-    pub(crate) fn read(text: &[u8]) -> Option<Door>
-        ensures { MatchOption result ((d : Door) → DoorText d text.now → ⊥) (λ d. DoorText d text.now) }
-    {
+    fn read(text: &[u8]) -> Option<Door> {
         let [digit, tail @ ..] = strip(text, b":mailto:d")? else {
             return None;
         };
         if !is(tail, b"@doors") {
             return None;
         }
-        if *digit < b'1' || *digit > b'8' {
+        if !(b'1'..=b'8').contains(digit) {
             return None;
         }
         Some(Door {
@@ -65,17 +67,19 @@ impl Door {
     }
 }
 
-// The SEQUENCE that a text writes, or none.
-pub(crate) fn read_sequence(text: &[u8]) -> Option<Sequence>
-    ensures { MatchOption result ((n : Sequence) → SequenceText n text.now → ⊥) (λ n. SequenceText n text.now) }
-{
-    let number = match text {
-        [d] => read_four(b'0', b'0', b'0', *d)?,
-        [b'0', ..] => return None,
-        [c, d] => read_four(b'0', b'0', *c, *d)?,
-        [b, c, d] => read_four(b'0', *b, *c, *d)?,
-        [a, b, c, d] => read_four(*a, *b, *c, *d)?,
-        _ => return None,
-    };
-    Some(Sequence { number })
+impl Text for Sequence {
+    ghost says = { SequenceText };
+
+    // The SEQUENCE that a text writes, or none.
+    fn read(text: &[u8]) -> Option<Sequence> {
+        let number = match text {
+            [d] => read_four(b'0', b'0', b'0', *d)?,
+            [b'0', ..] => return None,
+            [c, d] => read_four(b'0', b'0', *c, *d)?,
+            [b, c, d] => read_four(b'0', *b, *c, *d)?,
+            [a, b, c, d] => read_four(*a, *b, *c, *d)?,
+            _ => return None,
+        };
+        Some(Sequence { number })
+    }
 }

@@ -1,11 +1,10 @@
 // Stamps inside a text, and the two stamps of a period.
 ghost use Rattle.std.specs.Prelude.{◌≡◌, ℕ, List, ◌++◌, MatchOption, ◌≢◌};
 ghost use Rattle.stamp.specs.Stamps.{Stamped};
-ghost use Rattle.property.specs.declared.kinds.Period.{Period};
 ghost use Rattle.property.specs.Values.{PeriodText};
 
+use crate::codecs::{Text, after};
 use crate::kinds::Period;
-use crate::marks::strip;
 use stamp::Stamp;
 
 // The stamp at the front of a text, and what follows it, or none where no stamp stands there.
@@ -17,14 +16,13 @@ pub(crate) fn read_front(text: &[u8]) -> Option<(Stamp, &[u8])>
     Some((stamp, rest))
 }
 
-impl Period {
+impl Text for Period {
+    ghost says = { PeriodText };
+
     // The period that a text writes, or none.
-    pub(crate) fn read(text: &[u8]) -> Option<Period>
-        ensures { MatchOption result ((p : Period) → PeriodText p text.now → ⊥) (λ p. PeriodText p text.now) }
-    {
+    fn read(text: &[u8]) -> Option<Period> {
         let (start, rest) = read_front(text)?;
-        let last = strip(rest, b"/")?;
-        let end = Stamp::read(last)?;
+        let end = after(b"/", rest)?;
         Some(Period { start, end })
     }
 }

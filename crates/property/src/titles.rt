@@ -3,6 +3,7 @@ ghost use Rattle.std.specs.Prelude.{◌≡◌, ℕ, ◌-◌, ◌<◌, ◌≤◌,
 ghost use Rattle.property.specs.Bytes.{title_byte};
 ghost use Rattle.property.specs.Values.{TitleText, title_text};
 
+use crate::codecs::Text;
 use crate::kinds::Title;
 
 impl Title {
@@ -35,16 +36,21 @@ impl Title {
         ensures { MatchOption result (TitleText text.now → ⊥) (λ t. TitleText text.now × (title_text t ≡ text.now) × (t.bytes ≡ text.now ++ replicate (40 - length text.now) 0)) }
     {
         let len = text.len();
-        if len < 1 || len > 40 {
-            return None;
-        }
-        if !fit(text) {
+        if !(1..=40).contains(&len) || !text.iter().all(|byte| fits(*byte)) {
             return None;
         }
         Some(Title {
             len,
             bytes: padded(text),
         })
+    }
+}
+
+impl Text for Title {
+    ghost says = { λ t text. TitleText text × (text ≡ title_text t) };
+
+    fn read(text: &[u8]) -> Option<Title> {
+        Title::read(text)
     }
 }
 
@@ -58,23 +64,11 @@ fn padded(text: &[u8]) -> [u8; 40]
     bytes
 }
 
-// Whether each of these bytes may stand in a title.
-fn fit(text: &[u8]) -> bool
-    ensures { Decides result ((k : ℕ) → k < length text.now → title_byte (slice_index text.now k) ≡ true) }
-{
-    for byte in text {
-        if !fits(*byte) {
-            return false;
-        }
-    }
-    true
-}
-
 fn fits(byte: u8) -> bool
     ensures { result ≡ title_byte byte }
 {
     match byte {
         b'"' | b',' | b';' | b'\\' => false,
-        _ => b' ' <= byte && byte <= b'~',
+        _ => (b' '..=b'~').contains(&byte),
     }
 }

@@ -1,7 +1,6 @@
-use Rattle.std.proofs.Common.{◌≡◌, ◌∷◌, sym, ◌∙◌, subst}
-use Rattle.stamp.specs.Stamps.{Stamped}
+use Rattle.std.proofs.Common.{◌∷◌, sym, ◌∙◌}
 use Rattle.property.proofs.Texts.{same_front, stamp_long}
-use Rattle.property.proofs.kinds.Period.read.Goals as goal
+use Rattle.property.proofs.periods.PeriodText.read.Goals as goal
 
 pub returns-in_err-start : goal.returns-in_err-start
 returns-in_err-start c =
@@ -14,6 +13,4 @@ returns-in_err-end c =
     (λ p t.
     let front = c.in_ok-start.ensures in
     let same = same_front t.start front.0 (47 ∷ t.end) c.in_ok-start.rest.now (stamp_long _ _ t.started ∙ sym (stamp_long _ _ front.1)) (sym t.written ∙ front.2) in
-    let after = c.in_ok-last.ensures in
-    let last : t.end ≡ c.in_ok-last.last.now = cc in
-    c.in_err-end.ensures p.end.seconds (subst (Stamped p.end.seconds) last t.ended))
+    c.in_err-end.ensures p.end (t.end, t.ended, sym same.1))

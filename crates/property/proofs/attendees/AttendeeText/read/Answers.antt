@@ -1,5 +1,5 @@
 use Rattle.property.proofs.Answered.{behind, no_shown, no_door, no_reply, heard_text}
-use Rattle.property.proofs.kinds.Attendee.read.Goals as goal
+use Rattle.property.proofs.attendees.AttendeeText.read.Goals as goal
 
 pub returns-in_err-shown : goal.returns-in_err-shown
 returns-in_err-shown c =

@@ -5,7 +5,6 @@ ghost use Rattle.message.specs.Names.{method_text};
 ghost use Rattle.message.specs.declared.kinds.Method.{Method};
 
 use crate::kinds::Method;
-use crate::names::same;
 use fault::Property;
 
 const REQUEST: [Property; 13] = [
@@ -47,14 +46,11 @@ impl Method {
     pub(crate) fn read(text: &[u8]) -> Option<Method>
         ensures { MatchOption result ((m : Method) → text.now ≢ method_text m) (λ m. text.now ≡ method_text m) }
     {
-        if same(text, b":REQUEST") {
-            Some(Method::Request)
-        } else if same(text, b":CANCEL") {
-            Some(Method::Cancel)
-        } else if same(text, b":REPLY") {
-            Some(Method::Reply)
-        } else {
-            None
+        match text {
+            b":REQUEST" => Some(Method::Request),
+            b":CANCEL" => Some(Method::Cancel),
+            b":REPLY" => Some(Method::Reply),
+            _ => None,
         }
     }
 
@@ -82,11 +78,6 @@ impl Method {
     pub(crate) fn wanted(self, read: usize) -> Option<Property>
         ensures { result ≡ wanted self read }
     {
-        let order = self.order();
-        if read < order.len() {
-            Some(order[read])
-        } else {
-            None
-        }
+        self.order().get(read).copied()
     }
 }

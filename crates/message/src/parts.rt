@@ -66,7 +66,7 @@ impl Body {
 fn alone(value: Value, place: usize) -> Option<Value>
     ensures { MatchOption result (1 ≤ place) (λ v. (place ≡ 0) × (v ≡ value)) }
 {
-    if place == 0 { Some(value) } else { None }
+    (place == 0).then_some(value)
 }
 
 impl Periods {

@@ -1,8 +1,12 @@
 // The dates of a REQUEST.
-ghost use Rattle.std.specs.Prelude.{◌≡◌, ◌<◌, true, false, [], ◌∷◌, ◌++◌, length, MatchBool};
+ghost use Rattle.std.specs.Prelude.{◌≡◌, ◌<◌, [], ◌∷◌, ◌++◌, length, MatchResult};
+ghost use Rattle.fault.specs.declared.kinds.Cause.TheVariants.{Dates};
+ghost use Rattle.fault.specs.declared.kinds.Layer.TheVariants.{Engine};
+ghost use Rattle.fault.specs.Numbers.{told};
 ghost use Rattle.message.specs.Meaning.{further_of};
 
 use crate::kinds::Periods;
+use fault::{Cause, Fault, Layer};
 use property::Period;
 use stamp::Stamp;
 
@@ -25,18 +29,18 @@ impl Periods {
         }
     }
 
-    // One date more; false where there are six.
-    pub fn push(&mut self, date: Period) -> bool
+    // One date more. Refused, by the rule of dates: a seventh.
+    pub fn push(&mut self, date: Period) -> Result<(), Fault>
         ensures first { self.new.first ≡ self.old.first }
-        ensures further { MatchBool result (further_of self.new ≡ further_of self.old ++ (date ∷ [])) ((length (further_of self.old) ≡ 5) × (further_of self.new ≡ further_of self.old)) }
+        ensures further { MatchResult result (λ _. further_of self.new ≡ further_of self.old ++ (date ∷ [])) (λ f. (f ≡ told Engine Dates) × (length (further_of self.old) ≡ 5) × (further_of self.new ≡ further_of self.old)) }
     {
         let at = self.count;
         if at == 5 {
-            return false;
+            return Err(Fault::new(Layer::Engine, Cause::Dates));
         }
         self.further[at] = date;
         self.count = at + 1;
-        true
+        Ok(())
     }
 
     pub fn first(&self) -> Period

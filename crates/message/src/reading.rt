@@ -170,11 +170,7 @@ fn read_wanted(
         return None;
     }
     let value = Value::read(property, text)?;
-    if is_of(method, &value) {
-        Some(value)
-    } else {
-        None
-    }
+    is_of(method, &value).then_some(value)
 }
 
 // Whether a value may stand in a method: in a REPLY a door answers, in any other the site invites.

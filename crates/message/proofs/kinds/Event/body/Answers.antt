@@ -1,5 +1,5 @@
 use Rattle.std.proofs.Common.{sym}
-use Rattle.message.proofs.Places.{request_parts, cancel_parts, reply_parts}
+use Rattle.message.proofs.Places.{request_parts}
 use Rattle.message.proofs.kinds.Event.body.Goals as goal
 
 pub returns-in-Request : goal.returns-in-Request
@@ -7,9 +7,3 @@ returns-in-Request c = record {
   method = sym c.in-Request.is;
   parts = request_parts c.args.method c.args.read c.args.self.now c.dates.result c.in-Request.is c.requires.0 c.requires.1 c.dates.ensures.first c.dates.ensures.further;
 }
-
-pub returns-in-Cancel : goal.returns-in-Cancel
-returns-in-Cancel c = record { method = sym c.in-Cancel.is; parts = cancel_parts c.args.method c.args.read c.args.self.now c.in-Cancel.is c.requires.0 c.requires.1 }
-
-pub returns-in-Reply : goal.returns-in-Reply
-returns-in-Reply c = record { method = sym c.in-Reply.is; parts = reply_parts c.args.method c.args.read c.args.self.now c.in-Reply.is c.requires.0 c.requires.1 }

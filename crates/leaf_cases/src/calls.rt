@@ -1,4 +1,5 @@
 // One call a line.
+use casebook::Answer;
 use fault::{Cause, Fault, Layer};
 use rank::{Revision, Sequence, keep_newer};
 use stamp::Stamp;
@@ -39,19 +40,16 @@ pub fn answer(rt: &HostRuntime, line: &str) -> io::Result<()> {
 }
 
 fn read(rt: &HostRuntime, line: &str, text: &str) -> io::Result<()> {
-    match Stamp::read(text.as_bytes()) {
-        Some(stamp) => {
-            let seconds = stamp.seconds;
-            println!(rt; "{line} = {seconds}")
-        }
-        None => println!(rt; "{line} = none"),
-    }
+    let result = Stamp::read(text.as_bytes())
+        .map(|stamp| stamp.seconds)
+        .ok_or("none");
+    let answer = Answer { result };
+    println!(rt; "{line} = {answer}")
 }
 
 fn seconds(text: &str) -> Stamp {
-    match text.parse::<u32>() {
-        Ok(seconds) => Stamp { seconds },
-        Err(_) => Stamp { seconds: 0 },
+    Stamp {
+        seconds: text.parse::<u32>().unwrap_or(0),
     }
 }
 
@@ -64,26 +62,18 @@ fn fresh(rt: &HostRuntime, line: &str, numbers: &str) -> io::Result<()> {
     let Some((clock, previous)) = numbers.split_once(' ') else {
         return println!(rt; "{line} = not two numbers");
     };
-    match Stamp::fresh(seconds(clock), seconds(previous)) {
-        Ok(stamp) => {
-            let seconds = stamp.seconds;
-            println!(rt; "{line} = {seconds}")
-        }
-        Err(fault) => println!(rt; "{line} = {fault}"),
-    }
+    let result = Stamp::fresh(seconds(clock), seconds(previous)).map(|stamp| stamp.seconds);
+    let answer = Answer { result };
+    println!(rt; "{line} = {answer}")
 }
 
 // Revisions as SEQUENCE/DTSTAMP, one after another; the first is held, and each that follows comes in.
 fn keep(rt: &HostRuntime, line: &str, revisions: &str) -> io::Result<()> {
-    let mut held: Option<Revision> = None;
-    for text in revisions.split(' ') {
-        held = match (held, revision(text)) {
-            (Some(old), Some(came)) => Some(keep_newer(old, came)),
-            (None, came) => came,
-            (old, None) => old,
-        };
-    }
-    match held {
+    let kept = revisions
+        .split(' ')
+        .filter_map(|text| revision(text))
+        .reduce(|held, came| keep_newer(held, came));
+    match kept {
         Some(kept) => {
             let sequence = kept.sequence.number;
             let seconds = kept.dtstamp.seconds;
@@ -95,24 +85,21 @@ fn keep(rt: &HostRuntime, line: &str, revisions: &str) -> io::Result<()> {
 
 fn revision(text: &str) -> Option<Revision> {
     let (sequence, dtstamp) = text.split_once('/')?;
-    match sequence.parse::<u16>() {
-        Ok(number) => Some(Revision {
-            sequence: Sequence { number },
-            dtstamp: seconds(dtstamp),
-        }),
-        Err(_) => None,
-    }
+    let number = sequence.parse::<u16>().ok()?;
+    Some(Revision {
+        sequence: Sequence { number },
+        dtstamp: seconds(dtstamp),
+    })
 }
 
 // Every cause, as found by the store or else by the writer of texts.
 fn faults(rt: &HostRuntime, tester: &str) -> io::Result<()> {
-    let tester = if tester == "store" {
-        Layer::Store
-    } else {
-        Layer::Framing
+    let tester = match tester {
+        "store" => Layer::Store,
+        _ => Layer::Framing,
     };
-    for cause in CAUSES.iter() {
-        let fault = Fault::new(tester, *cause);
+    for cause in CAUSES {
+        let fault = Fault::new(tester, cause);
         println!(rt; "{fault}")?;
     }
     Ok(())

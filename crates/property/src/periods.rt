@@ -22,7 +22,7 @@ impl Text for Period {
     // The period that a text writes, or none.
     fn read(text: &[u8]) -> Option<Period> {
         let (start, rest) = read_front(text)?;
-        let end = after(b"/", rest)?;
+        let end: Stamp = after(b"/", rest)?;
         Some(Period { start, end })
     }
 }

@@ -1,4 +1,5 @@
 // What reading a text and writing a message answer, in words.
+use casebook::trailing_dots;
 use message::{Body, Message, Method};
 use property::{Answer, Door, Heard, Meeting, Period};
 use rank::Sequence;
@@ -74,17 +75,6 @@ fn reread(rt: &HostRuntime, buffer: &[u8], length: usize) -> anyhow::Result<()> 
     }
     println!(rt; "")?;
     Ok(())
-}
-
-fn trailing_dots(bytes: &[u8]) -> usize {
-    let mut dots: usize = 0;
-    for byte in bytes.iter().rev() {
-        if *byte != b'.' {
-            return dots;
-        }
-        dots = dots.saturating_add(1);
-    }
-    dots
 }
 
 // Stamps are given by their count of seconds.

@@ -41,16 +41,11 @@ fn start(text: &[u8], n: usize) -> usize {
     if n <= 1 {
         return 0;
     }
-    let mut line: usize = 1;
-    for (at, byte) in text.iter().enumerate() {
-        if *byte == b'\n' {
-            line = line.saturating_add(1);
-            if line == n {
-                return at.saturating_add(1);
-            }
-        }
-    }
-    text.len()
+    text.iter()
+        .enumerate()
+        .filter(|(_, byte)| **byte == b'\n')
+        .nth(n - 2)
+        .map_or(text.len(), |(at, _)| at.saturating_add(1))
 }
 
 pub fn cut(bytes: &[u8], from: usize, to: usize) -> &[u8] {
@@ -65,16 +60,12 @@ pub fn bare(line: &[u8]) -> &[u8] {
 // The bytes of a line as a case writes it, where `\xHH` is the byte with these two hexadecimal digits.
 pub fn unescaped(heap: Global, written: &str) -> Result<Vec<u8>, AllocError> {
     let mut bytes = Vec::new(heap);
-    let mut first = true;
-    for piece in written.split("\\x") {
-        if first {
-            bytes.extend_from_slice(piece.as_bytes())?;
-        } else {
-            let piece = piece.as_bytes();
-            bytes.push(hexadecimal(cut(piece, 0, 2)))?;
-            bytes.extend_from_slice(cut(piece, 2, piece.len()))?;
-        }
-        first = false;
+    let mut pieces = written.split("\\x");
+    bytes.extend_from_slice(pieces.next().unwrap_or("").as_bytes())?;
+    for piece in pieces {
+        let piece = piece.as_bytes();
+        bytes.push(hexadecimal(cut(piece, 0, 2)))?;
+        bytes.extend_from_slice(cut(piece, 2, piece.len()))?;
     }
     Ok(bytes)
 }

@@ -32,8 +32,5 @@ pub fn read_revision(text: &str) -> Result<Revision, Fault>
 pub fn take(held: Option<Revision>, came: Revision) -> Revision
     ensures { MatchOption held (result ≡ came) (λ h. Kept rank_of h came result) }
 {
-    match held {
-        Some(held) => keep_newer(held, came),
-        None => came,
-    }
+    held.map_or(came, |held| keep_newer(held, came))
 }

@@ -80,10 +80,7 @@ impl Door {
 
     // The revision that the log has, if it has one.
     fn held(&self) -> Option<Revision> {
-        match self.read_row() {
-            Ok(revision) => Some(revision),
-            Err(_) => None,
-        }
+        self.read_row().ok()
     }
 
     fn read_row(&self) -> Result<Revision, Fault> {

@@ -35,3 +35,9 @@ abbrev pub method_text : Method → List ℕ
 method_text Request = codes ":REQUEST"
 method_text Cancel = codes ":CANCEL"
 method_text Reply = codes ":REPLY"
+
+-- the name of a method, as the text of METHOD has it behind the colon
+abbrev pub method_name : Method → List ℕ
+method_name Request = codes "REQUEST"
+method_name Cancel = codes "CANCEL"
+method_name Reply = codes "REPLY"

@@ -5,6 +5,7 @@ ghost use Rattle.message.specs.Grammar.{Reads, Alone};
 
 mod events;
 mod kinds;
+mod methods;
 mod names;
 mod orders;
 mod parts;

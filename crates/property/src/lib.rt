@@ -1,6 +1,7 @@
 // The properties of a text: what each says, in types, and how it is read.
 #![tactic(auto)]
 
+mod answers;
 mod attendees;
 mod codecs;
 mod digits;

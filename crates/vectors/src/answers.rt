@@ -1,6 +1,6 @@
 // What reading a text and writing a message answer, in words.
 use casebook::trailing_dots;
-use message::{Body, Message, Method};
+use message::{Body, Message};
 use property::{Answer, Door, Heard, Meeting, Period};
 use rank::Sequence;
 use stamp::Stamp;
@@ -118,21 +118,13 @@ fn with_basis(body: &Body, at: Stamp) -> Body {
 }
 
 fn show(rt: &HostRuntime, message: &Message) -> io::Result<()> {
-    let method = method_name(message.method());
+    let method = message.method();
     let meeting = message.meeting.number;
     let door = message.door.number;
     let sequence = message.sequence.number;
     let dtstamp = message.dtstamp;
     print!(rt; "{method} {meeting} door {door} sequence {sequence} dtstamp {dtstamp}")?;
     show_body(rt, &message.body)
-}
-
-fn method_name(method: Method) -> &'static str {
-    match method {
-        Method::Request => "REQUEST",
-        Method::Cancel => "CANCEL",
-        Method::Reply => "REPLY",
-    }
 }
 
 fn show_body(rt: &HostRuntime, body: &Body) -> io::Result<()> {
@@ -152,10 +144,7 @@ fn show_body(rt: &HostRuntime, body: &Body) -> io::Result<()> {
             Ok(())
         }
         Body::Cancel { heard } => show_heard(rt, heard),
-        Body::Reply { answer, basis } => {
-            let answer = partstat(Some(answer));
-            print!(rt; " answer {answer} basis {basis}")
-        }
+        Body::Reply { answer, basis } => { print!(rt; " answer {answer} basis {basis}") }
     }
 }
 
@@ -176,11 +165,7 @@ fn show_heard(rt: &HostRuntime, heard: Option<Heard>) -> io::Result<()> {
     }
 }
 
+// An answer as PARTSTAT shows it.
 fn partstat(answer: Option<Answer>) -> &'static str {
-    match answer {
-        None => "NEEDS-ACTION",
-        Some(Answer::Accepted) => "ACCEPTED",
-        Some(Answer::Declined) => "DECLINED",
-        Some(Answer::Tentative) => "TENTATIVE",
-    }
+    answer.map_or("NEEDS-ACTION", Answer::name)
 }

@@ -1,0 +1,26 @@
+// The names of the methods.
+ghost use Rattle.std.specs.Prelude.{◌≡◌, Some};
+ghost use Rattle.message.specs.Names.{method_name};
+
+use crate::kinds::Method;
+use std::fmt;
+
+impl Method {
+    pub fn name(self) -> &'static str
+        ensures { result.now ≡ method_name self }
+    {
+        match self {
+            Method::Request => "REQUEST",
+            Method::Cancel => "CANCEL",
+            Method::Reply => "REPLY",
+        }
+    }
+}
+
+impl fmt::Display for Method {
+    ghost output = { λ m. Some (method_name m) };
+
+    fn fmt<W: fmt::Write>(&self, f: &mut fmt::Formatter<W>) -> fmt::Result {
+        f.write_str(self.name())
+    }
+}

@@ -1,0 +1,26 @@
+// What a door can answer, as PARTSTAT has it.
+ghost use Rattle.std.specs.Prelude.{◌≡◌, Some};
+ghost use Rattle.property.specs.Values.{answer_text};
+
+use crate::kinds::Answer;
+use std::fmt;
+
+impl Answer {
+    pub fn name(self) -> &'static str
+        ensures { result.now ≡ answer_text self }
+    {
+        match self {
+            Answer::Accepted => "ACCEPTED",
+            Answer::Declined => "DECLINED",
+            Answer::Tentative => "TENTATIVE",
+        }
+    }
+}
+
+impl fmt::Display for Answer {
+    ghost output = { λ a. Some (answer_text a) };
+
+    fn fmt<W: fmt::Write>(&self, f: &mut fmt::Formatter<W>) -> fmt::Result {
+        f.write_str(self.name())
+    }
+}

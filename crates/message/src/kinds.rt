@@ -15,6 +15,7 @@ pub enum Method {
 }
 
 // The dates of a REQUEST as they stand in the text: the first, and up to five further ones.
+// An array with a count: a message is copied with its dates, and neither a `Vec` nor an `ArrayVec` can be.
 #[derive(Clone, Copy)]
 pub struct Periods {
     pub(crate) first: Period,
@@ -77,6 +78,7 @@ pub enum Stage {
 }
 
 // The parts of an event, each in its place; those that were not read yet are blank.
+// Blanks and no Options: the order of the properties says which were read, so an Option would say it twice and be taken apart unread.
 #[derive(Clone, Copy)]
 pub struct Event {
     pub(crate) meeting: Meeting,

@@ -3,6 +3,7 @@ ghost use Rattle.std.specs.Prelude.{◌≡◌, ℕ, ◌≤◌, [], ◌∷◌, Ma
 ghost use Rattle.property.specs.Bytes.{four};
 
 // The number that four digits write, or none where a byte is no digit.
+// Written out, and not once for any width with `stamp`'s two digits: that would be a loop, a bound on the width and checked sums, for one `match` here and one there.
 pub(crate) fn read_four(a: u8, b: u8, c: u8, d: u8) -> Option<u16>
     ensures { MatchOption result ((n : ℕ) → n ≤ 9999 → a ∷ (b ∷ (c ∷ (d ∷ []))) ≢ four n) (λ n. (n ≤ 9999) × (a ∷ (b ∷ (c ∷ (d ∷ []))) ≡ four n)) }
 {

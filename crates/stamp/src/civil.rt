@@ -2,7 +2,8 @@
 ghost use Rattle.std.specs.Prelude.{◌≤◌};
 ghost use Rattle.stamp.specs.Calendar.{month_length};
 
-// Seconds from 2000-01-01T00:00:00Z on. A stamp is one from 1 to 3,155,759,999; 0 stands for none.
+// Seconds from 2000-01-01T00:00:00Z on. A stamp is one from 1 to 3,155,759,999.
+// That 0 stands for none, in a stamp and not by an Option, is the rule of stamps in records and texts.
 #[derive(Clone, Copy, PartialEq, Eq, PartialOrd, Ord, Debug)]
 pub struct Stamp {
     pub seconds: u32,

@@ -12,6 +12,7 @@ pub fn read_two(tens: u8, ones: u8) -> Option<u32>
     }
 }
 
+// Written out, as in `writer`'s four digits: once for any width would be a loop over a division, for one line here and four there.
 pub fn write_two(n: u32) -> [u8; 2]
     requires { n < 100 }
     ensures { result ≡ two n }

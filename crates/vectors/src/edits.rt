@@ -126,21 +126,16 @@ fn fill(heap: Global, text: &[u8], n: usize, total: usize) -> Result<Vec<u8>, Al
     let (before, line, after) = around(text, n);
     let mut made = Vec::new(heap);
     let mut missing = total.saturating_sub(text.len());
-    for _ in 0..total {
-        if missing < 8 {
-            break;
-        }
+    while missing >= 8 {
         let size = if missing <= 77 {
             missing
         } else {
             (missing - 8).min(77)
         };
         made.extend_from_slice(b"X-PAD:")?;
-        for _ in 8..size {
-            made.push(b'x')?;
-        }
+        made.extend_from_slice(vec![in heap; b'x'; size - 8]?.as_slice())?;
         made.extend_from_slice(CLOSE)?;
-        missing = missing.saturating_sub(size);
+        missing -= size;
     }
     joined(heap, before, made.as_slice(), line, after)
 }

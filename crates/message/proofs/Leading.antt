@@ -4,9 +4,6 @@ use Rattle.std.proofs.lemmas.List.{length_push, flat_map_more, take_at, take-app
 use Rattle.lines.specs.Content.{Content, Fit, closed, Stands}
 use Rattle.message.specs.Grammar.{State, calendar, Step, Leads, AllFit, Led}
 
-pub led_start : (h : Bool) (text : List ℕ) → Led h text 0 0 calendar
-led_start h text = record { lines = []; fit = tt; size = refl; read = refl; leads = refl }
-
 fit_more : (ls : List Content) (l : Content) → AllFit ls → Fit l → AllFit (ls ++ (l ∷ []))
 fit_more [] l all f = (f, tt)
 fit_more (x ∷ ls) l all f = (all.0, fit_more ls l all.1 f)

@@ -1,5 +1,5 @@
 -- Where the parts of an event stand.
-use Rattle.std.proofs.Common.{◌≡◌, ℕ, zero, suc, ◌-◌, ◌<◌, ◌≤◌, List, [], ◌∷◌, ◌++◌, map, length, get_or, take, set, Some, None, Option, sym, refl, ap, ◌∙◌, arith, MatchOption}
+use Rattle.std.proofs.Common.{◌≡◌, ℕ, zero, suc, ◌-◌, ◌<◌, ◌≤◌, List, [], ◌∷◌, ◌++◌, map, length, get_or, take, set, Some, sym, refl, ap, ◌∙◌, arith}
 use Rattle.std.specs.List.{slice_get}
 use Rattle.std.proofs.lemmas.List.{map-set, set-append_right, take-map, take_all, length-take-le, length-map, get_or-map, get_or-take}
 use Rattle.std.proofs.lemmas.Option.{slice_get-get_or}
@@ -12,8 +12,7 @@ use Rattle.property.specs.Values.{Part, uid, dtstamp, sequence, organizer, atten
 use Rattle.message.specs.declared.kinds.Method.{Method}
 use Rattle.message.specs.declared.kinds.Method.TheVariants.{Request, Cancel, Reply}
 use Rattle.message.specs.declared.kinds.Event.{Event}
-use Rattle.message.specs.Meaning.{wanted, required, further_of, date_parts, later, parts_of}
-use Rattle.message.specs.declared.kinds.Message.{Message}
+use Rattle.message.specs.Meaning.{wanted, required, further_of, date_parts, later}
 use Rattle.message.specs.declared.kinds.Body.TheVariants as body
 use Rattle.message.specs.declared.kinds.Periods.{Periods}
 use Rattle.message.specs.Reader.{slots, parts_with}
@@ -64,12 +63,6 @@ request_parts m n e d is r l first further =
     let t = taken Request n e (rw is at r) l in
     rw is (cc (t, first.0, first.1, further))
 
-pub cancel_parts : (m : Method) (n : ℕ) (e : Event) → m ≡ Cancel → required m ≤ n → n ≤ 13 → parts_with e (body.Cancel e.heard) ≡ take n (slots m e)
-cancel_parts m n e is r l = rw is (sym (taken Cancel n e (rw is at r) l))
-
-pub reply_parts : (m : Method) (n : ℕ) (e : Event) → m ≡ Reply → required m ≤ n → n ≤ 13 → parts_with e (body.Reply e.answer e.basis) ≡ take n (slots m e)
-reply_parts m n e is r l = rw is (sym (taken Reply n e (rw is at r) l))
-
 -- the places of the further dates among the parts
 pub date_at : (d : Periods) (place : ℕ) (x : Period) → 2 ≤ place → place - 2 < d.count → slice_get (date_parts d) place ≡ Some (rdate (get_or d.further (place - 2) x))
 date_at d zero x low less = absurd (omega arith)
@@ -80,18 +73,3 @@ date_at d (suc (suc k)) x low less =
     let within : k < length (map rdate (further_of d)) = omega (arith, length-map (further_of d) rdate) in
     slice_get-get_or (map rdate (further_of d)) k (rdate x) within
     ∙ ap Some (get_or-map rdate (further_of d) k x (rdate x) (omega arith) ∙ ap rdate (get_or-take d.count d.further k x (omega arith) ∙ ap (λ i. get_or d.further i x) (sym same)))
-
-pub date_past : (d : Periods) (place : ℕ) → 2 ≤ place → d.count ≤ place - 2 → length (date_parts d) ≤ place
-date_past d place low more = omega (arith, length-map (further_of d) rdate, length-take-le d.count d.further (omega arith))
-
-nth_past_five : (a b c d e : Part) (xs : List Part) (place : ℕ) → 5 ≤ place → slice_get (a ∷ (b ∷ (c ∷ (d ∷ (e ∷ xs))))) place ≡ slice_get xs (place - 5)
-nth_past_five a b c d e xs zero h = absurd (omega arith)
-nth_past_five a b c d e xs (suc zero) h = absurd (omega arith)
-nth_past_five a b c d e xs (suc (suc zero)) h = absurd (omega arith)
-nth_past_five a b c d e xs (suc (suc (suc zero))) h = absurd (omega arith)
-nth_past_five a b c d e xs (suc (suc (suc (suc zero)))) h = absurd (omega arith)
-nth_past_five a b c d e xs (suc (suc (suc (suc (suc k))))) h = ap (slice_get xs) (omega arith)
-
-pub later_at : (m : Message) (place : ℕ) (o : Option Value) → 5 ≤ place → MatchOption o (length (later m.body) ≤ place - 5) (λ v. slice_get (later m.body) (place - 5) ≡ Some (part_of v)) → MatchOption o (length (parts_of m) ≤ place) (λ v. slice_get (parts_of m) place ≡ Some (part_of v))
-later_at m place None h few = omega arith
-later_at m place (Some v) h is = nth_past_five _ _ _ _ _ (later m.body) place h ∙ is

@@ -1,15 +1,9 @@
 // What the names of lines stand for.
-ghost use Rattle.std.specs.Prelude.{◌≡◌, Decides};
+ghost use Rattle.std.specs.Prelude.{◌≡◌};
 ghost use Rattle.message.specs.Names.{kind_of};
 
 use crate::kinds::Kind;
 use fault::Property;
-
-pub(crate) fn same(left: &[u8], right: &[u8]) -> bool
-    ensures { Decides result (left.now ≡ right.now) }
-{
-    left == right
-}
 
 impl Kind {
     pub(crate) fn of(name: &[u8]) -> Kind

@@ -7,7 +7,6 @@ ghost use Rattle.message.specs.Meaning.{needed, belongs};
 ghost use Rattle.message.specs.Reader.{state_of, Moves, Takes, Finishes, Goes, Produces, Chooses, Opens, Closes, Adds};
 
 use crate::kinds::{Event, Kind, Message, Method, Stage};
-use crate::names::same;
 use crate::progress::Reading;
 use fault::{Cause, Fault, Layer, Property};
 use lines::Line;
@@ -91,7 +90,7 @@ impl Reading {
         requires { needed next ≤ self.old.read }
         ensures { Goes text.now wanted.now next self.old self.new result }
     {
-        if !same(text, wanted) {
+        if text != wanted {
             return Err(frame_fault());
         }
         self.stage = next;
@@ -121,7 +120,7 @@ impl Reading {
     fn begin(&mut self, method: Method, text: &[u8]) -> Result<(), Fault>
         ensures { Opens text.now method self.new result }
     {
-        if !same(text, b":VEVENT") {
+        if text != b":VEVENT".as_slice() {
             return Err(frame_fault());
         }
         self.stage = Stage::Inside(method);
@@ -133,7 +132,7 @@ impl Reading {
     fn close(&mut self, method: Method, text: &[u8]) -> Result<(), Fault>
         ensures { Closes text.now method self.old self.new result }
     {
-        if !same(text, b":VEVENT") {
+        if text != b":VEVENT".as_slice() {
             return Err(frame_fault());
         }
         if self.read < method.required() {

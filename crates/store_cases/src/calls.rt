@@ -84,12 +84,5 @@ fn get<S: Store>(rt: &HostRuntime, store: &mut S, line: &str, rest: &str) -> any
 }
 
 fn trailing_dots(bytes: &[u8]) -> usize {
-    let mut dots: usize = 0;
-    for byte in bytes.iter().rev() {
-        if *byte != b'.' {
-            return dots;
-        }
-        dots = dots.saturating_add(1);
-    }
-    dots
+    bytes.iter().rev().take_while(|byte| **byte == b'.').count()
 }

@@ -73,14 +73,7 @@ fn fetch<C: Countable>(
 }
 
 fn trailing_dots(bytes: &[u8]) -> usize {
-    let mut dots: usize = 0;
-    for byte in bytes.iter().rev() {
-        if *byte != b'.' {
-            return dots;
-        }
-        dots = dots.saturating_add(1);
-    }
-    dots
+    bytes.iter().rev().take_while(|byte| **byte == b'.').count()
 }
 
 fn count<C: Countable>(

@@ -3,6 +3,7 @@ use crate::calls::call;
 use carrier::{Fates, Plan, Ring, Stack};
 use fault::NotMade;
 
+// An enum and no `Box<dyn Countable>`, since a rule of the gate needs it: no function may make a dyn value and hand it out.
 #[derive(Drop)]
 pub enum Made {
     Ring(Ring),

@@ -3,6 +3,7 @@ use crate::calls::call;
 use fault::NotMade;
 use store::{Log, Table};
 
+// An enum and no `Box<dyn Store>`, since a rule of the gate needs it: no function may make a dyn value and hand it out.
 #[derive(Drop)]
 pub enum Made {
     Table(Table),

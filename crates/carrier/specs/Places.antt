@@ -37,13 +37,9 @@ none_for to (x ∷ xs) h =
 pub count_slots : (to : ℕ) (ss : List Slot) → waiting_for to (map letter_in ss) ≡ count_by (λ s. s.to.number == to) ss
 count_slots to = is_count_by (λ ss. waiting_for to (map letter_in ss)) (λ s. s.to.number == to) refl (λ s ss. grind (arith, nat_tests))
 
-pub picks_first : (to : ℕ) (ss : List Slot) (r : Option ℕ) → MatchOption r (AllWithin (λ s. s.to.number ≢ to) ss 0 (length ss)) (λ i. (i < length ss) × HoldsAt (λ s. s.to.number ≡ to) ss i × AllWithin (λ s. s.to.number ≢ to) ss 0 i) → Picks (λ k i. k < i) to (map letter_in ss) r
-picks_first to ss None h = none_for to (map letter_in ss) (λ k. for_another to ss k (λ l d. h k d (omega arith) l))
-picks_first to ss (Some i) h = ((omega (arith, h.0, length-map ss letter_in), for_there to ss i h.0 h.1), λ k m. for_another to ss k (λ l d. h.2 k d (omega arith) m))
-
-pub picks_last : (to : ℕ) (ss : List Slot) (r : Option ℕ) → MatchOption r (AllWithin (λ s. s.to.number ≢ to) ss 0 (length ss)) (λ i. (i < length ss) × HoldsAt (λ s. s.to.number ≡ to) ss i × AllWithin (λ s. s.to.number ≢ to) ss (i + 1) (length ss)) → Picks (λ k i. i < k) to (map letter_in ss) r
-picks_last to ss None h = none_for to (map letter_in ss) (λ k. for_another to ss k (λ l d. h k d (omega arith) l))
-picks_last to ss (Some i) h = ((omega (arith, h.0, length-map ss letter_in), for_there to ss i h.0 h.1), λ k m. for_another to ss k (λ l d. h.2 k d (omega arith) l))
+pub picks : (sooner : ℕ → ℕ → Type 0) (to : ℕ) (ss : List Slot) (r : Option ℕ) → MatchOption r (AllWithin (λ s. s.to.number ≢ to) ss 0 (length ss)) (λ i. (i < length ss) × HoldsAt (λ s. s.to.number ≡ to) ss i × ((k : ℕ) (d : Slot) → sooner k i → k < length ss → (get_or ss k d).to.number ≢ to)) → Picks sooner to (map letter_in ss) r
+picks sooner to ss None h = none_for to (map letter_in ss) (λ k. for_another to ss k (λ l d. h k d (omega arith) l))
+picks sooner to ss (Some i) h = ((omega (arith, h.0, length-map ss letter_in), for_there to ss i h.0 h.1), λ k m. for_another to ss k (λ l d. h.2 k d m l))
 
 split_here : {X : Type 0} (xs : List X) (i : ℕ) (d : X) → i < length xs → xs ≡ take i xs ++ (slice_index_or xs i d ∷ drop (i + 1) xs)
 split_here {X} xs i d h = sym (take-append-drop i xs) ∙ ap (λ (t : List X). take i xs ++ t) (drop_more xs i d h)

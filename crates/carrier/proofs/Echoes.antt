@@ -1,10 +1,10 @@
 -- One letter in an empty carrier.
-use Rattle.std.proofs.Common.{◌≡◌, ℕ, ◌+◌, ◌<◌, ◌≤◌, Bool, true, false, cond, ◌&&◌, eqb, List, [], ◌∷◌, length, take, Ok, Err, Result, refl, ap, ◌∙◌, subst, ⊎_elim, arith, length-take}
+use Rattle.std.proofs.Common.{◌≡◌, ℕ, ◌+◌, ◌<◌, ◌≤◌, Bool, true, false, cond, ◌&&◌, eqb, List, [], ◌∷◌, length, take, Ok, Err, Result, refl, sym, ap, ◌∙◌, subst, ⊎_elim, arith, length-take}
 use Rattle.std.proofs.lemmas.Bool.{cases_Bool}
 use Rattle.std.proofs.lemmas.Bool.Decides.{nat_tests}
 use Rattle.fault.specs.declared.kinds.Fault.{Fault}
 use Rattle.carrier.specs.Mail.{Letter, Mail, Fit, Among, SameMail, same_letter, same_text, times, waiting_for, letter}
-use Rattle.carrier.specs.Posts.{Takes, Hands, Fetched, NotHanded, NotAsked, Echoed}
+use Rattle.carrier.specs.Posts.{Takes, Hands, Fetched, NotHanded, NotAsked, NotEchoed, Echoed}
 use Rattle.carrier.specs.Counting.{same_letter_eq, times_own}
 
 no_letter : (b : Bool) → b ≡ false → 0 < cond {A = ℕ} b 1 0 + 0 → ⊥
@@ -53,8 +53,14 @@ echoed l old new before mid after (Ok n) len t h = record {
       let mids = subst (λ (ls : List Letter). SameMail mid.waiting (l ∷ ls)) empty (t.exact f) in
       let out = subst (λ (x : Letter). SameMail (x ∷ after.waiting) mid.waiting) (ap (letter l.to) text) (h.exact (t.faithful ∙ f)) in
       (ap Ok size, subst (λ (i : ℕ). take i new ≡ l.text) size text, nothing_waits after.waiting (λ x. omega (arith, out x, mids x)));
+  refused = λ f e. absurd (grind arith);
 }
 echoed l old new before mid after (Err f) len t h = record {
   any = λ empty m e. absurd (grind arith);
   faithful = λ faith empty fit long. absurd (not_refused l old mid f fit long (subst (λ (ls : List Letter). SameMail mid.waiting (l ∷ ls)) empty (t.exact faith)) h.0);
+  refused = λ f' e.
+      let same : f ≡ f' = cc in
+      let taken = subst (Takes l before) (sym h.1) t in
+      let told = subst (λ (m : Mail). NotHanded l.to old m f) (sym h.1) h.0 in
+      subst (λ (i : Fault). NotEchoed l old before after i × (new ≡ old)) same (NotEchoed.fetch taken told, h.2);
 }

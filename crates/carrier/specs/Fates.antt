@@ -25,6 +25,11 @@ fates_of p = vec_items p.fates
 abbrev pub fate_at : Plan → ℕ → Fate
 fate_at p i = slice_index_or (fates_of p) i Carried
 
+-- what reading a fate from a digit answers
+abbrev pub ReadsFate : ℕ → Result Fate Fault → Type 0
+ReadsFate digit (Ok f) = digit ≡ digit_of f
+ReadsFate digit (Err e) = (e ≡ told Carrier Range) × ((f : Fate) → digit ≢ digit_of f)
+
 -- what reading a plan from its digits answers
 abbrev pub ReadsPlan : List ℕ → Result Plan NotMade → Type 0
 ReadsPlan digits (Ok p) = digits ≡ map digit_of (fates_of p)

@@ -1,13 +1,16 @@
 -- What a carrier that loses and doubles still keeps.
-use Rattle.std.specs.Prelude.{◌≡◌, ℕ, ◌+◌, ◌<◌, List, [], ◌∷◌, ◌++◌, map, length, take, Ok, Err, Result, ◌≢◌, slice_index, slice_index_or, refl}
+use Rattle.std.specs.Prelude.{◌≡◌, ℕ, ◌<◌, List, ◌∷◌, map, length, Ok, Err, Result, ◌≢◌, slice_index, slice_index_or, MatchResult, refl}
 use Rattle.std.proofs.Common.{ap, ◌∙◌, arith}
-use Rattle.std.proofs.lemmas.List.{take_more, map_push, get_or-map, length-map}
+use Rattle.std.proofs.lemmas.List.{get_or-map, length-map}
 use Rattle.fault.specs.declared.kinds.Fault.{Fault}
 use Rattle.carrier.specs.declared.kinds.Fate.{Fate}
 use Rattle.carrier.specs.declared.kinds.Fate.TheVariants.{Lost, Carried, Doubled}
 use Rattle.carrier.specs.Mail.{Letter, Mail, Fit, Sound, Among, times}
 use Rattle.carrier.specs.Posts.{Takes, Posted}
-use Rattle.carrier.specs.Fates.{digit_of, unfaithful, Fated}
+use Rattle.carrier.specs.Fates.{digit_of, unfaithful, Fated, ReadsFate, ReadsPlan}
+use Rattle.carrier.specs.declared.kinds.Plan.{Plan}
+use Rattle.fault.specs.declared.kinds.NotMade.{NotMade}
+use Rattle.fault.specs.declared.kinds.NotMade.TheVariants.{Refused}
 
 pub unfaithful_sound : (m : Mail) → Sound m → Sound (unfaithful m)
 unfaithful_sound m s = record { room = s.room; within = s.within; fit = s.fit }
@@ -25,15 +28,12 @@ unfaithful_takes Lost l before after fit room e = record { fit = fit; room = roo
 unfaithful_takes Carried l before after fit room t = record { fit = fit; room = room; capacity = t.capacity; faithful = refl; among = t.among; exact = λ no. absurd (grind arith) }
 unfaithful_takes Doubled l before after fit room t = let s = second_post l t.0 after t.1 t.3 in record { fit = fit; room = room; capacity = s.0 ∙ t.2.capacity; faithful = refl; among = among_twice l before.waiting t.0.waiting after.waiting t.2.among s.1; exact = λ no. absurd (grind arith) }
 
--- digits of a plan, one by one
-pub digits_more : (digits : List ℕ) (fates : List Fate) (i : ℕ) (f : Fate) → i < length digits → take i digits ≡ map digit_of fates → slice_index digits i ≡ digit_of f → take (i + 1) digits ≡ map digit_of (fates ++ (f ∷ []))
-digits_more digits fates i f h e d = take_more digits i 0 h ∙ (cc (map_push digit_of fates f))
-
 -- a digit that is no fate's is in no plan
-pub no_plan : (digits : List ℕ) (i : ℕ) → i < length digits → ((f : Fate) → slice_index digits i ≢ digit_of f) → (fates : List Fate) → digits ≢ map digit_of fates
+no_plan : (digits : List ℕ) (i : ℕ) → i < length digits → ((f : Fate) → slice_index digits i ≢ digit_of f) → (fates : List Fate) → digits ≢ map digit_of fates
 no_plan digits i h none fates e =
     let long : length digits ≡ length fates = ap length e ∙ length-map fates digit_of in
     none (slice_index_or fates i Lost) (ap (λ (ds : List ℕ). slice_index ds i) e ∙ get_or-map digit_of fates i Lost 0 (omega arith))
 
-pub no_length : (digits : List ℕ) (fates : List Fate) → digits ≡ map digit_of fates → length digits ≡ length fates
-no_length digits fates e = ap length e ∙ length-map fates digit_of
+pub bad_digit : (digits : List ℕ) (i : ℕ) (read : Result Fate Fault) (r : Result Plan NotMade) → i < length digits → ReadsFate (slice_index digits i) read → MatchResult read (λ _. ⊥) (λ f. r ≡ Err (Refused f)) → ReadsPlan digits r
+bad_digit digits i (Ok f) r h reads e = absurd e
+bad_digit digits i (Err f) r h reads e = rw e (reads.0, λ fates some few. no_plan digits i h reads.1 fates)

@@ -1,50 +1,45 @@
 -- Letters in a row, place by place.
-use Rattle.std.specs.Prelude.{◌≡◌, ℕ, zero, suc, ◌+◌, ◌-◌, ◌<◌, ◌≤◌, Bool, false, cond, List, [], ◌∷◌, ◌++◌, map, length, get_or, take, drop, vec_items, vec_len, ◌==◌, nat_eq, slice_index_or, refl}
-use Rattle.std.proofs.Common.{sym, ap, ◌∙◌, ⊎_elim, arith}
-use Rattle.std.proofs.lemmas.List.{map_more, map-append, take-map, drop-map, get_or-map, drop_more, take-append-drop, length-map}
-use Rattle.std.proofs.lemmas.Bool.{cases_eq}
+use Rattle.std.specs.Prelude.{◌≡◌, ℕ, zero, suc, ◌+◌, ◌<◌, ◌≤◌, false, List, [], ◌∷◌, ◌++◌, map, length, get_or, take, drop, vec_items, vec_len, ◌==◌, nat_eq, slice_index_or, count_by, true, ◌≢◌, Option, Some, None, MatchOption, refl}
+use Rattle.std.specs.List.{AllWithin, HoldsAt}
+use Rattle.std.proofs.Common.{sym, ap, ◌∙◌, arith}
+use Rattle.std.proofs.lemmas.List.{map-append, take-map, drop-map, get_or-map, drop_more, take-append-drop, length-map}
+use Rattle.std.proofs.lemmas.List.Recursion.{is_count_by}
+use Rattle.std.proofs.lemmas.Bool.Decides.{nat_tests}
 use Rattle.carrier.specs.declared.kinds.Row.{Row}
 use Rattle.carrier.specs.declared.kinds.Slot.{Slot}
 use Rattle.carrier.specs.Mail.{Letter, waiting_for, letter}
-use Rattle.carrier.specs.Queues.{letter_in, letters, for_at, TakesOut}
+use Rattle.carrier.specs.Queues.{letter_in, letters, for_at, Picks, TakesOut}
 
 pub letters-length : (r : Row) → length (letters r) ≡ vec_len r.slots
 letters-length r = length-map (vec_items r.slots) letter_in ∙ sym r.slots.ok.0
 
-for_slot : (to : ℕ) (ss : List Slot) (k : ℕ) (d : Slot) → k < length ss → for_at to (map letter_in ss) k ≡ ((get_or ss k d).to == to)
-for_slot to [] k d h = absurd (omega arith)
-for_slot to (s ∷ ss) zero d h = refl
-for_slot to (s ∷ ss) (suc k) d h = for_slot to ss k d (omega arith)
+for_there : (to : ℕ) (ss : List Slot) (k : ℕ) → k < length ss → HoldsAt (λ s. s.to.number ≡ to) ss k → for_at to (map letter_in ss) k ≡ true
+for_there to [] k l h = absurd (omega arith)
+for_there to (s ∷ ss) zero l h = let e : s.to.number ≡ to = h s in grind (arith, nat_tests)
+for_there to (s ∷ ss) (suc k) l h = for_there to ss k (omega arith) h
 
-pub for_past : (to : ℕ) (ls : List Letter) (k : ℕ) → length ls ≤ k → for_at to ls k ≡ false
-for_past to [] k h = refl
-for_past to (x ∷ xs) zero h = absurd (omega arith)
-for_past to (x ∷ xs) (suc k) h = for_past to xs k (omega arith)
+for_another : (to : ℕ) (ss : List Slot) (k : ℕ) → (k < length ss → HoldsAt (λ s. s.to.number ≢ to) ss k) → for_at to (map letter_in ss) k ≡ false
+for_another to [] k h = refl
+for_another to (s ∷ ss) zero h = let ne : s.to.number ≢ to = h (omega arith) s in grind (arith, nat_tests)
+for_another to (s ∷ ss) (suc k) h = for_another to ss k (λ l. h (omega arith))
 
-pub none_for : (to : ℕ) (ls : List Letter) → ((k : ℕ) → k < length ls → for_at to ls k ≡ false) → waiting_for to ls ≡ 0
+for_read : (to : ℕ) (ss : List Slot) (k : ℕ) (s : Slot) → k < length ss → s ≡ slice_index_or ss k s → for_at to (map letter_in ss) k ≡ (s.to.number == to)
+for_read to [] k s h e = absurd (omega arith)
+for_read to (x ∷ ss) zero s h e = ap (λ (y : Slot). nat_eq y.to.number to) (sym e)
+for_read to (x ∷ ss) (suc k) s h e = for_read to ss k s (omega arith) e
+
+none_for : (to : ℕ) (ls : List Letter) → ((k : ℕ) → for_at to ls k ≡ false) → waiting_for to ls ≡ 0
 none_for to [] h = refl
 none_for to (x ∷ xs) h =
-    let here : nat_eq x.to to ≡ false = h 0 (omega arith) in
-    rw here (omega (arith, none_for to xs (λ k l. h (suc k) (omega arith))))
+    let here : nat_eq x.to to ≡ false = h 0 in
+    rw here (omega (arith, none_for to xs (λ k. h (suc k))))
 
-pub for_append : (to : ℕ) (a b : List Letter) → waiting_for to (a ++ b) ≡ waiting_for to a + waiting_for to b
-for_append to [] b = omega arith
-for_append to (x ∷ a) b = omega (arith, for_append to a b)
+pub count_slots : (to : ℕ) (ss : List Slot) → waiting_for to (map letter_in ss) ≡ count_by (λ s. s.to.number == to) ss
+count_slots to = is_count_by (λ ss. waiting_for to (map letter_in ss)) (λ s. s.to.number == to) refl (λ s ss. grind (arith, nat_tests))
 
-for_more : (to : ℕ) (ss : List Slot) (i : ℕ) (d : Slot) → i < length ss → waiting_for to (map letter_in (take (i + 1) ss)) ≡ waiting_for to (map letter_in (take i ss)) + cond ((get_or ss i d).to == to) 1 0
-for_more to ss i d h =
-    let more = for_append to (map letter_in (take i ss)) (letter_in (slice_index_or ss i d) ∷ []) in
-    ap (waiting_for to) (map_more letter_in ss i d h) ∙ more ∙ omega arith
-
-pub for_read : (to : ℕ) (ss : List Slot) (k : ℕ) (s : Slot) → k < length ss → s ≡ slice_index_or ss k s → for_at to (map letter_in ss) k ≡ (s.to == to)
-for_read to ss k s h e = for_slot to ss k s h ∙ ap (λ (x : Slot). nat_eq x.to to) (sym e)
-
-pub for_more_read : (to : ℕ) (ss : List Slot) (i : ℕ) (s : Slot) → i < length ss → s ≡ slice_index_or ss i s → waiting_for to (map letter_in (take (i + 1) ss)) ≡ waiting_for to (map letter_in (take i ss)) + cond (s.to == to) 1 0
-for_more_read to ss i s h e = for_more to ss i s h ∙ ap (λ (x : Slot). waiting_for to (map letter_in (take i ss)) + cond (x.to == to) 1 0) (sym e)
-
--- what holds at each place from i on and at the one before holds from there on
-pub above_more : (f : ℕ → Bool) (i : ℕ) → ((k : ℕ) → i ≤ k → f k ≡ false) → f (i - 1) ≡ false → (k : ℕ) → i - 1 ≤ k → f k ≡ false
-above_more f i above here k h = ⊎_elim (λ e. rw e here) (λ ne. above k (omega arith)) (cases_eq k (i - 1))
+pub picks : (sooner : ℕ → ℕ → Type 0) (to : ℕ) (ss : List Slot) (r : Option ℕ) → MatchOption r (AllWithin (λ s. s.to.number ≢ to) ss 0 (length ss)) (λ i. (i < length ss) × HoldsAt (λ s. s.to.number ≡ to) ss i × ((k : ℕ) (d : Slot) → sooner k i → k < length ss → (get_or ss k d).to.number ≢ to)) → Picks sooner to (map letter_in ss) r
+picks sooner to ss None h = none_for to (map letter_in ss) (λ k. for_another to ss k (λ l d. h k d (omega arith) l))
+picks sooner to ss (Some i) h = ((omega (arith, h.0, length-map ss letter_in), for_there to ss i h.0 h.1), λ k m. for_another to ss k (λ l d. h.2 k d m l))
 
 split_here : {X : Type 0} (xs : List X) (i : ℕ) (d : X) → i < length xs → xs ≡ take i xs ++ (slice_index_or xs i d ∷ drop (i + 1) xs)
 split_here {X} xs i d h = sym (take-append-drop i xs) ∙ ap (λ (t : List X). take i xs ++ t) (drop_more xs i d h)
@@ -53,9 +48,9 @@ pub taken_out : (ss after : List Slot) (i n : ℕ) (s : Slot) (old new : List �
 taken_out ss after i n s old new h e a size front rest =
     let ls : List Letter = map letter_in ss in
     let long : i < length ls = omega (arith, length-map ss letter_in) in
-    let here : get_or ls i (letter_in s) ≡ letter s.to (take n new) = get_or-map letter_in ss i s (letter_in s) h ∙ ap letter_in (sym e) ∙ ap (letter s.to) (sym front) in
+    let here : get_or ls i (letter_in s) ≡ letter s.to.number (take n new) = get_or-map letter_in ss i s (letter_in s) h ∙ ap letter_in (sym e) ∙ ap (letter s.to.number) (sym front) in
     record {
-      to = s.to;
+      to = s.to.number;
       named = λ a. for_read a ss i s h e;
       was = split_here ls i (letter_in s) long ∙ ap (λ (x : Letter). take i ls ++ (x ∷ drop (i + 1) ls)) here;
       is = ap (map letter_in) a ∙ map-append letter_in (take i ss) (drop (i + 1) ss) ∙ simp (take-map, drop-map);

@@ -57,7 +57,13 @@ abbrev pub Counted : ℕ → Mail → Result ℕ Fault → Type 0
 Counted to m (Ok n) = (to ≤ 8) × (n ≡ waiting_for to m.waiting)
 Counted to m (Err f) = NotCounted to f
 
+-- why posting a letter and fetching for its address is refused: it was not posted, or it was posted and not fetched
+pub data NotEchoed (l : Letter) (old : List ℕ) (before after : Mail) (f : Fault) : Type 0 where
+  post : NotTaken l before f → after ≡ before → NotEchoed l old before after f
+  fetch : Takes l before after → NotHanded l.to old after f → NotEchoed l old before after f
+
 -- what posting a letter and fetching for its address answers, where nothing waited: the text or nothing, and from a faithful carrier the text
 pub record Echoed (l : Letter) (old new : List ℕ) (before after : Mail) (r : Result ℕ Fault) : Type 0 where
   pub any : before.waiting ≡ [] → (n : ℕ) → r ≡ Ok n → take n new ≡ l.text
   pub faithful : before.faithful ≡ true → before.waiting ≡ [] → Fit l → 768 ≤ length old → (r ≡ Ok (length l.text)) × (take (length l.text) new ≡ l.text) × (after.waiting ≡ [])
+  pub refused : (f : Fault) → r ≡ Err f → NotEchoed l old before after f × (new ≡ old)

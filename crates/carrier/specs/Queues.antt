@@ -12,7 +12,7 @@ use Rattle.carrier.specs.declared.kinds.Slot.{Slot}
 use Rattle.carrier.specs.Mail.{Letter, letter, Mail, waiting_for}
 
 abbrev pub letter_in : Slot → Letter
-letter_in s = letter s.to (take s.len s.bytes)
+letter_in s = letter s.to.number s.text.items
 
 -- the letters of a row, the oldest first
 abbrev pub letters : Row → List Letter

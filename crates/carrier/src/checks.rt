@@ -6,16 +6,14 @@ ghost use Rattle.fault.specs.declared.kinds.Layer.TheVariants.{Carrier};
 ghost use Rattle.carrier.specs.Mail.{Fit, letter};
 ghost use Rattle.carrier.specs.Posts.{NotAsked};
 
-use crate::kinds::Address;
+use crate::kinds::{Address, LONGEST};
 use fault::{Cause, Fault, Layer};
-
-// The longest text, and the shortest buffer that a fetch takes.
-pub const LONGEST: usize = 768;
 
 // The highest address: the eighth door.
 const LAST: u8 = 8;
 
 // Whether a letter can be carried.
+// Address and text stay two parameters, here and below, since a struct is no plainer: `Carrier::post` takes the two, and each function hands them on as they came.
 pub fn check_letter(to: Address, text: &[u8]) -> Result<(), Fault>
     ensures { MatchResult result (λ _. Fit (letter to.number text.now)) (λ f. (f ≡ told Carrier Range) × (Fit (letter to.number text.now) → ⊥)) }
 {

@@ -1,21 +1,26 @@
 // Where a letter goes, and a letter that waits.
-ghost use Rattle.std.specs.Prelude.{◌≡◌, ◌<◌, ◌≤◌, length, vec_len, vec_capacity};
+ghost use Rattle.std.specs.Prelude.{◌<◌, ◌≤◌, vec_len, vec_capacity};
+ghost use Rattle.arrayvec.specs.ArrayVec.{array_vec_len};
+
+use arrayvec::ArrayVec;
+
+// The longest text, and the shortest buffer that a fetch takes.
+pub const LONGEST: usize = 768;
 
 // The end of an address: 0 is the site, 1 to 8 are the doors. Other numbers are no address, and are refused where one is asked for.
+// A plain number, since a rule of carriers needs it: a bad address has to exist to be refused.
 #[derive(Clone, Copy, PartialEq, Eq, Debug)]
 pub struct Address {
     pub number: u8,
 }
 
 // A place that holds one letter.
-#[derive(Clone, Copy)]
+#[derive(Drop)]
 pub struct Slot {
-    pub(crate) to: u8,
-    pub(crate) len: usize,
-    pub(crate) bytes: [u8; 768],
-    ghost whole: { length bytes ≡ 768 },
-    ghost address: { to ≤ 8 },
-    ghost some: { (1 ≤ len) × (len ≤ 768) },
+    pub(crate) to: Address,
+    pub(crate) text: ArrayVec<u8, LONGEST>,
+    ghost address: { to.number ≤ 8 },
+    ghost some: { (1 ≤ array_vec_len text) × (array_vec_len text ≤ 768) },
 }
 
 // Letters in the order in which they came, and room for a fixed number of them.

@@ -1,22 +1,23 @@
 // Plans: the fates of letters, read from digits.
-ghost use Rattle.std.specs.Prelude.{◌≡◌, ℕ, ◌<◌, ◌≤◌, length, vec_len, MatchOption, ◌≢◌};
-ghost use Rattle.carrier.specs.Fates.{digit_of, fate_at, ReadsPlan};
-ghost use Rattle.carrier.specs.declared.kinds.Fate.{Fate};
+ghost use Rattle.std.specs.Prelude.{◌≡◌, ◌<◌, vec_len};
+ghost use Rattle.carrier.specs.Fates.{fate_at, ReadsFate, ReadsPlan};
 
 use crate::kinds::{Fate, Plan};
 use fault::{Cause, Fault, Layer, NotMade};
 use std::alloc::Global;
 
-impl Fate {
-    // The fate that a digit names: how often a letter is posted.
-    pub fn read(digit: u8) -> Option<Fate>
-        ensures { MatchOption result ((f : Fate) → digit ≢ digit_of f) (λ f. digit ≡ digit_of f) }
-    {
+// The fate that a digit names: how often a letter is posted.
+impl TryFrom<u8> for Fate {
+    type Error = Fault;
+
+    ghost try_from_gives = { ReadsFate };
+
+    fn try_from(digit: u8) -> Result<Fate, Fault> {
         match digit {
-            b'0' => Some(Fate::Lost),
-            b'1' => Some(Fate::Carried),
-            b'2' => Some(Fate::Doubled),
-            _ => None,
+            b'0' => Ok(Fate::Lost),
+            b'1' => Ok(Fate::Carried),
+            b'2' => Ok(Fate::Doubled),
+            _ => Err(Fault::new(Layer::Carrier, Cause::Range)),
         }
     }
 }
@@ -26,16 +27,13 @@ impl Plan {
     pub fn read(heap: Global, digits: &[u8]) -> Result<Plan, NotMade>
         ensures { ReadsPlan digits.now result }
     {
-        let refused = NotMade::Refused(Fault::new(Layer::Carrier, Cause::Range));
         if digits.is_empty() || digits.len() > 64 {
-            return Err(refused);
+            return Err(NotMade::Refused(Fault::new(Layer::Carrier, Cause::Range)));
         }
         let mut fates = Vec::with_capacity(heap, digits.len())?;
+        // A loop, since a chain is no plainer: `collect` would take the memory digit by digit, and mix want of memory with a bad digit.
         for digit in digits {
-            let Some(fate) = Fate::read(*digit) else {
-                return Err(refused);
-            };
-            fates.push_reserved(fate);
+            fates.push_reserved(Fate::try_from(*digit).map_err(NotMade::Refused)?);
         }
         Ok(Plan { fates })
     }

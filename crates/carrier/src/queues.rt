@@ -6,7 +6,6 @@ ghost use Rattle.carrier.specs.Queues.{letters, row_mail, Picks, AtEnd, InOrder,
 ghost use Rattle.carrier.specs.Counting.{row_sound};
 
 use crate::checks::check_address;
-use crate::finding::{count_for, first_for, last_for};
 use crate::kinds::{Address, Latest, Oldest, Queue, Row};
 use crate::mail::{Carrier, Countable};
 use fault::{Fault, NotMade};
@@ -31,7 +30,7 @@ impl Order for Oldest {
     ghost sooner = { λ k i. k < i };
 
     fn pick(&self, row: &Row, to: Address) -> Option<usize> {
-        first_for(row.slots.as_slice(), to)
+        row.first_for(to)
     }
 }
 
@@ -39,7 +38,7 @@ impl Order for Latest {
     ghost sooner = { λ k i. i < k };
 
     fn pick(&self, row: &Row, to: Address) -> Option<usize> {
-        last_for(row.slots.as_slice(), to)
+        row.last_for(to)
     }
 }
 
@@ -82,6 +81,6 @@ impl<O: Order> Carrier for Queue<O> {
 impl<O: Order> Countable for Queue<O> {
     fn count(&self, to: Address) -> Result<usize, Fault> {
         check_address(to)?;
-        Ok(count_for(self.row.slots.as_slice(), to))
+        Ok(self.row.count_for(to))
     }
 }

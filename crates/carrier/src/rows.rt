@@ -1,6 +1,6 @@
 // A row of letters in the order in which they came, with room for a fixed number of them.
-ghost use Rattle.std.specs.Prelude.{◌≡◌, ℕ, ◌+◌, ◌<◌, ◌≤◌, [], ◌∷◌, ◌++◌, length, Decides};
-ghost use Rattle.carrier.specs.Mail.{Fit, letter};
+ghost use Rattle.std.specs.Prelude.{◌≡◌, ◌<◌, ◌≤◌, length, Decides};
+ghost use Rattle.carrier.specs.Mail.{letter};
 ghost use Rattle.carrier.specs.Posts.{Posted, Fetched};
 ghost use Rattle.carrier.specs.Queues.{letters, MakesRow, TakesOut, Found, FromPlace, AtEnd, row_mail};
 
@@ -27,16 +27,6 @@ impl Row {
         self.slots.len() == self.room
     }
 
-    // Puts a letter at the end.
-    pub(crate) fn push(&mut self, to: Address, text: &[u8])
-        requires fit { Fit (letter to.number text.now) }
-        requires room { length (letters self.old) < self.old.room }
-        ensures items { letters self.new ≡ letters self.old ++ (letter to.number text.now ∷ []) }
-        ensures room { self.new.room ≡ self.old.room }
-    {
-        self.slots.push_reserved(Slot::new(to, text));
-    }
-
     // Takes the letter at a place out, and copies its text to the front of the buffer.
     pub(crate) fn take(&mut self, place: usize, buffer: &mut [u8]) -> usize
         requires there { place < length (letters self.old) }
@@ -57,7 +47,7 @@ impl Row {
         if self.is_full() {
             return Err(Fault::new(Layer::Carrier, Cause::CarrierFull));
         }
-        self.push(to, text);
+        self.slots.push_reserved(Slot::new(to, text));
         Ok(())
     }
 

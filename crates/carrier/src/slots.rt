@@ -1,28 +1,20 @@
-// One letter in its place: put in, looked at, copied out.
-ghost use Rattle.std.specs.Prelude.{◌≡◌, ℕ, ◌<◌, ◌≤◌, length, take, drop, ◌==◌};
+// One letter in its place: put in, copied out.
+ghost use Rattle.std.specs.Prelude.{◌≡◌, ◌≤◌, length, take, drop};
 ghost use Rattle.carrier.specs.Mail.{Fit, letter};
 ghost use Rattle.carrier.specs.Queues.{letter_in};
 
 use crate::kinds::{Address, Slot};
+use arrayvec::ArrayVec;
 
 impl Slot {
     pub(crate) fn new(to: Address, text: &[u8]) -> Slot
         requires { Fit (letter to.number text.now) }
         ensures { letter_in result ≡ letter to.number text.now }
     {
-        let mut bytes = [0; 768];
-        bytes[0..text.len()].copy_from_slice(text);
         Slot {
-            to: to.number,
-            len: text.len(),
-            bytes,
+            to,
+            text: ArrayVec::try_from(text).unwrap(),
         }
-    }
-
-    pub(crate) fn is_for(&self, to: Address) -> bool
-        ensures { result ≡ ((letter_in self.now).to == to.number) }
-    {
-        self.to == to.number
     }
 
     // Copies the text to the front of the buffer, keeps the buffer's rest, and tells the length.
@@ -32,8 +24,8 @@ impl Slot {
         ensures front { take result buffer.new ≡ (letter_in self.now).text }
         ensures rest { drop result buffer.new ≡ drop result buffer.old }
     {
-        let len = self.len;
-        buffer[0..len].copy_from_slice(&self.bytes[0..len]);
-        len
+        let text = self.text.as_slice();
+        buffer[..text.len()].copy_from_slice(text);
+        text.len()
     }
 }

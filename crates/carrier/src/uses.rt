@@ -7,7 +7,7 @@ use crate::mail::Carrier;
 use fault::Fault;
 
 // Posts a text, and fetches for the same address. In a faithful carrier in which nothing waits, the text comes back and nothing waits then.
-// In any carrier in which nothing waits, what comes back is the text or nothing.
+// In any carrier in which nothing waits, what comes back is the text or nothing. Refused: as a post, which then changes nothing, and else as a fetch.
 pub fn echo<C: Carrier>(
     carrier: &mut C,
     to: Address,

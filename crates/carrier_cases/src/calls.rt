@@ -1,5 +1,7 @@
 // Calls of any countable carrier.
 use carrier::{Address, Countable};
+use fault::Fault;
+use std::fmt::Display;
 use std::str::from_utf8;
 
 pub fn call<C: Countable>(rt: &HostRuntime, carrier: &mut C, line: &str) -> anyhow::Result<()> {
@@ -7,16 +9,9 @@ pub fn call<C: Countable>(rt: &HostRuntime, carrier: &mut C, line: &str) -> anyh
     match name {
         "post" => post(rt, carrier, line, rest),
         "fetch" => fetch(rt, carrier, line, rest),
-        "count" => count(rt, carrier, line, rest),
-        "full" => {
-            let full = carrier.is_full();
-            println!(rt; "{line} = {full}")?;
-            Ok(())
-        }
-        _ => {
-            println!(rt; "{line}")?;
-            Ok(())
-        }
+        "count" => told(rt, line, carrier.count(address(rest))),
+        "full" => told(rt, line, Ok(carrier.is_full())),
+        _ => Ok(println!(rt; "{line}")?),
     }
 }
 
@@ -24,6 +19,18 @@ fn address(text: &str) -> Address {
     Address {
         number: text.parse::<u8>().unwrap_or(255),
     }
+}
+
+fn told<A: Display + Drop>(
+    rt: &HostRuntime,
+    line: &str,
+    answer: Result<A, Fault>,
+) -> anyhow::Result<()> {
+    match answer {
+        Ok(answer) => println!(rt; "{line} = {answer}")?,
+        Err(fault) => println!(rt; "{line} = {fault}")?,
+    }
+    Ok(())
 }
 
 // `post 3 words`, or `post 3 *n` for n bytes.
@@ -41,11 +48,7 @@ fn post<C: Countable>(
         }
         None => carrier.post(address(to), text.as_bytes()),
     };
-    match answer {
-        Ok(()) => println!(rt; "{line} = ok")?,
-        Err(fault) => println!(rt; "{line} = {fault}")?,
-    }
-    Ok(())
+    told(rt, line, answer.map(|()| "ok"))
 }
 
 // `fetch 3 n`, with a buffer of n bytes that are all dots before.
@@ -57,41 +60,19 @@ fn fetch<C: Countable>(
 ) -> anyhow::Result<()> {
     let (to, size) = rest.split_once(' ').unwrap_or((rest, "768"));
     let mut buffer = vec![in rt.alloc(); b'.'; size.parse::<usize>().unwrap_or(0)]?;
-    match carrier.fetch(address(to), buffer.as_mut_slice()) {
+    let answer = carrier.fetch(address(to), buffer.as_mut_slice());
+    let dots = buffer
+        .iter()
+        .rev()
+        .take_while(|byte| **byte == b'.')
+        .count();
+    match answer {
         Ok(length) => {
-            let dots = trailing_dots(buffer.as_slice());
             let shown = buffer.get(0..length.min(20)).unwrap_or(b"?");
             let text = from_utf8(shown).unwrap_or("?");
             println!(rt; "{line} = {length} bytes, {text}, then {dots} dots")?;
         }
-        Err(fault) => {
-            let dots = trailing_dots(buffer.as_slice());
-            println!(rt; "{line} = {fault}, {dots} dots")?;
-        }
-    }
-    Ok(())
-}
-
-fn trailing_dots(bytes: &[u8]) -> usize {
-    let mut dots: usize = 0;
-    for byte in bytes.iter().rev() {
-        if *byte != b'.' {
-            return dots;
-        }
-        dots = dots.saturating_add(1);
-    }
-    dots
-}
-
-fn count<C: Countable>(
-    rt: &HostRuntime,
-    carrier: &mut C,
-    line: &str,
-    to: &str,
-) -> anyhow::Result<()> {
-    match carrier.count(address(to)) {
-        Ok(count) => println!(rt; "{line} = {count}")?,
-        Err(fault) => println!(rt; "{line} = {fault}")?,
+        Err(fault) => println!(rt; "{line} = {fault}, {dots} dots")?,
     }
     Ok(())
 }

@@ -3,22 +3,23 @@ use crate::calls::call;
 use carrier::{Fates, Plan, Ring, Stack};
 use fault::NotMade;
 
+// An enum and no `Box<dyn Countable>`, since a rule of the gate needs it: no function may make a dyn value and hand it out.
 #[derive(Drop)]
 pub enum Made {
-    Nothing,
     Ring(Ring),
     Stack(Stack),
     Fates(Fates<Ring>),
 }
 
 // Makes what a line asks for, or has the carrier that was made do it.
-pub fn answer(rt: &HostRuntime, made: Made, line: &str) -> anyhow::Result<Made> {
+pub fn answer(rt: &HostRuntime, made: &mut Option<Made>, line: &str) -> anyhow::Result<()> {
     match line.split_once(' ') {
-        Some(("ring", size)) => report(rt, line, ring(rt, size)),
-        Some(("stack", size)) => report(rt, line, stack(rt, size)),
-        Some(("fates", rest)) => report(rt, line, fates(rt, rest)),
-        _ => used(rt, made, line),
+        Some(("ring", size)) => *made = report(rt, line, ring(rt, size))?,
+        Some(("stack", size)) => *made = report(rt, line, stack(rt, size))?,
+        Some(("fates", rest)) => *made = report(rt, line, fates(rt, rest))?,
+        _ => used(rt, made, line)?,
     }
+    Ok(())
 }
 
 fn number(text: &str) -> usize {
@@ -41,40 +42,25 @@ fn fates(rt: &HostRuntime, rest: &str) -> Result<Made, NotMade> {
     Ok(Made::Fates(Fates::new(below, plan)))
 }
 
-fn report(rt: &HostRuntime, line: &str, made: Result<Made, NotMade>) -> anyhow::Result<Made> {
-    match made {
-        Ok(made) => {
-            println!(rt; "{line} = made")?;
-            Ok(made)
-        }
-        Err(NotMade::Refused(fault)) => {
-            println!(rt; "{line} = {fault}")?;
-            Ok(Made::Nothing)
-        }
-        Err(NotMade::Memory) => {
-            println!(rt; "{line} = no memory")?;
-            Ok(Made::Nothing)
-        }
+fn report(
+    rt: &HostRuntime,
+    line: &str,
+    made: Result<Made, NotMade>,
+) -> anyhow::Result<Option<Made>> {
+    match &made {
+        Ok(_) => println!(rt; "{line} = made")?,
+        Err(NotMade::Refused(fault)) => println!(rt; "{line} = {fault}")?,
+        Err(NotMade::Memory) => println!(rt; "{line} = no memory")?,
     }
+    Ok(made.ok())
 }
 
-fn used(rt: &HostRuntime, made: Made, line: &str) -> anyhow::Result<Made> {
+fn used(rt: &HostRuntime, made: &mut Option<Made>, line: &str) -> anyhow::Result<()> {
     match made {
-        Made::Nothing => {
-            println!(rt; "{line}")?;
-            Ok(Made::Nothing)
-        }
-        Made::Ring(mut ring) => {
-            call(rt, &mut ring, line)?;
-            Ok(Made::Ring(ring))
-        }
-        Made::Stack(mut stack) => {
-            call(rt, &mut stack, line)?;
-            Ok(Made::Stack(stack))
-        }
-        Made::Fates(mut fates) => {
-            call(rt, &mut fates, line)?;
-            Ok(Made::Fates(fates))
-        }
+        None => println!(rt; "{line}")?,
+        Some(Made::Ring(ring)) => call(rt, ring, line)?,
+        Some(Made::Stack(stack)) => call(rt, stack, line)?,
+        Some(Made::Fates(fates)) => call(rt, fates, line)?,
     }
+    Ok(())
 }

@@ -1,10 +1,16 @@
 -- Rows kept as a list of entries, of which the newest for a key counts.
-use Rattle.std.specs.Prelude.{◌≡◌, ℕ, zero, suc, ◌+◌, ◌<◌, Bool, true, false, cond, List, [], ◌∷◌, length, take, drop, is_some, Some, None, Option, ◌==◌, ◌≢◌}
+use Rattle.std.specs.Prelude.{◌≡◌, ℕ, zero, suc, ◌+◌, ◌<◌, Bool, true, false, cond, List, [], ◌∷◌, length, drop, is_some, Some, None, Option, ◌==◌, ◌≢◌}
 use Rattle.store.specs.declared.entry.Entry.{Entry}
-use Rattle.store.specs.Rows.{Keyed}
+use Rattle.store.specs.Rows.{Keyed, Fit}
 
 abbrev pub bytes_in : Entry → List ℕ
-bytes_in e = take e.len e.bytes
+bytes_in e = e.bytes.items
+
+-- an entry that was made for a key and a row which can be kept
+pub record Holds (key : ℕ) (bytes : List ℕ) (e : Entry) : Type 0 where
+  pub fit : Fit key bytes
+  pub own : e.key ≡ key
+  pub row : bytes_in e ≡ bytes
 
 -- the later of two, if there is a later
 abbrev pub later : Option (List ℕ) → Option (List ℕ) → Option (List ℕ)

@@ -1,5 +1,6 @@
 -- The newest entry for a key, and what it says.
-use Rattle.std.specs.Prelude.{◌≡◌, ℕ, zero, suc, ◌+◌, ◌-◌, ◌<◌, ◌≤◌, Bool, true, false, List, [], ◌∷◌, ◌++◌, length, get_or, take, drop, is_some, Some, None, Option, ◌==◌, ◌≢◌, nat_eq, slice_index_or, slice_set, refl}
+use Rattle.std.specs.Prelude.{◌≡◌, ℕ, zero, suc, ◌+◌, ◌<◌, ◌≤◌, true, false, List, [], ◌∷◌, ◌++◌, length, take, drop, is_some, Some, None, Option, ◌≢◌, nat_eq, slice_index_or, slice_set, MatchOption, refl}
+use Rattle.std.specs.List.{AllWithin, HoldsAt}
 use Rattle.std.proofs.Common.{sym, ap, subst, ◌∙◌, ⊎_elim, arith, length-append}
 use Rattle.std.proofs.lemmas.List.{drop-append-le}
 use Rattle.std.proofs.lemmas.Bool.{cases_eq}
@@ -9,25 +10,19 @@ use Rattle.store.specs.Rows.{Keyed, bytes_of, Gets}
 use Rattle.store.specs.Entries.{bytes_in, later, says, row_in, key_at, Newest, Obsolete, Wrote}
 
 -- an entry by its place
-key_at_place : (key : ℕ) (es : List Entry) (p : ℕ) (d : Entry) → p < length es → key_at key es p ≡ ((get_or es p d).key == key)
-key_at_place key [] p d h = absurd (omega arith)
-key_at_place key (x ∷ es) zero d h = refl
-key_at_place key (x ∷ es) (suc p) d h = key_at_place key es p d (omega arith)
+key_there : (key : ℕ) (es : List Entry) (p : ℕ) → p < length es → HoldsAt (λ e. e.key ≡ key) es p → key_at key es p ≡ true
+key_there key [] p l h = absurd (omega arith)
+key_there key (x ∷ es) zero l h = let e : x.key ≡ key = h x in grind (arith, nat_tests)
+key_there key (x ∷ es) (suc p) l h = key_there key es p (omega arith) h
 
-pub key_here : (key : ℕ) (es : List Entry) (p : ℕ) (d : Entry) → p < length es → (get_or es p d).key ≡ key → key_at key es p ≡ true
-key_here key es p d h e = let t = key_at_place key es p d h in grind (arith, nat_tests)
+key_absent : (key : ℕ) (es : List Entry) (p : ℕ) → (p < length es → HoldsAt (λ e. e.key ≢ key) es p) → key_at key es p ≡ false
+key_absent key [] p h = refl
+key_absent key (x ∷ es) zero h = let ne : x.key ≢ key = h (omega arith) x in grind (arith, nat_tests)
+key_absent key (x ∷ es) (suc p) h = key_absent key es p (λ l. h (omega arith))
 
-pub key_not_here : (key : ℕ) (es : List Entry) (p : ℕ) (d : Entry) → p < length es → ((get_or es p d).key ≢ key) → key_at key es p ≡ false
-key_not_here key es p d h e = let t = key_at_place key es p d h in grind (arith, nat_tests)
-
-pub key_past : (key : ℕ) (es : List Entry) (p : ℕ) → length es ≤ p → key_at key es p ≡ false
-key_past key [] p h = refl
-key_past key (x ∷ es) zero h = absurd (omega arith)
-key_past key (x ∷ es) (suc p) h = key_past key es p (omega arith)
-
--- what holds at each place from i on and at the one before holds from there on
-pub above_more : (f : ℕ → Bool) (i : ℕ) → ((k : ℕ) → i ≤ k → f k ≡ false) → f (i - 1) ≡ false → (k : ℕ) → i - 1 ≤ k → f k ≡ false
-above_more f i above here k h = ⊎_elim (λ e. rw e here) (λ ne. above k (omega arith)) (cases_eq k (i - 1))
+pub newest_found : (key : ℕ) (es : List Entry) (r : Option ℕ) → MatchOption r (AllWithin (λ e. e.key ≢ key) es 0 (length es)) (λ p. (p < length es) × HoldsAt (λ e. e.key ≡ key) es p × AllWithin (λ e. e.key ≢ key) es (p + 1) (length es)) → Newest key es r
+newest_found key es None h = λ i. key_absent key es i (λ l d. h i d (omega arith) l)
+newest_found key es (Some p) h = (h.0, key_there key es p h.0 h.1, λ i m. key_absent key es i (λ l d. h.2 i d (omega arith) l))
 
 -- what is read from entries
 pub row_none : (key : ℕ) (es : List Entry) → ((i : ℕ) → key_at key es i ≡ false) → row_in es key ≡ None

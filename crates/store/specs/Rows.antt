@@ -77,8 +77,14 @@ abbrev pub Got : ℕ → List ℕ → List ℕ → Keyed → Result ℕ Fault �
 Got key old new row (Ok n) = Gets key n old new row
 Got key old new row (Err f) = NotGot key old f × (new ≡ old)
 
+-- why putting a row and getting it back is refused: nothing was put, or the row was put and not got
+pub data NotKept (key : ℕ) (bytes old : List ℕ) (before after : Rows) (f : Fault) : Type 0 where
+  put : NotSet key bytes before f → Same before after → NotKept key bytes old before after f
+  got : Sets key bytes before after → NotGot key old f → NotKept key bytes old before after f
+
 -- what putting a row and getting it back answers: the row, with every other as it was; and it is accepted where row, buffer and room are fit
 pub record Kept (key : ℕ) (bytes old new : List ℕ) (before after : Rows) (r : Result ℕ Fault) : Type 0 where
   pub back : (n : ℕ) → r ≡ Ok n → (n ≡ length bytes) × (new ≡ bytes ++ drop n old) × (after.row key ≡ Some bytes)
   pub elsewhere : (k : ℕ) → (k ≢ key) → after.row k ≡ before.row k
   pub accepted : Fit key bytes → 192 ≤ length old → (before.row key ≡ None → held_in before.row < before.capacity) → r ≡ Ok (length bytes)
+  pub refused : (f : Fault) → r ≡ Err f → NotKept key bytes old before after f × (new ≡ old)

@@ -1,43 +1,31 @@
 // Entries: made, found, copied out.
-ghost use Rattle.std.specs.Prelude.{◌≡◌, ℕ, ◌<◌, ◌≤◌, ◌++◌, length, drop, MatchResult};
+ghost use Rattle.std.specs.Prelude.{◌≡◌, ◌≤◌, ◌++◌, length, drop, MatchResult};
 ghost use Rattle.fault.specs.Numbers.{told};
 ghost use Rattle.fault.specs.declared.kinds.Cause.TheVariants.{Range};
 ghost use Rattle.fault.specs.declared.kinds.Layer.TheVariants.{Store};
 ghost use Rattle.store.specs.Rows.{Fit, Got};
-ghost use Rattle.store.specs.Entries.{bytes_in, row_in, Newest};
+ghost use Rattle.store.specs.Entries.{bytes_in, row_in, Holds, Newest};
 
-use crate::entry::{Entry, Key};
+use crate::entry::{Entry, Key, LAST, LONGEST};
+use arrayvec::ArrayVec;
 use fault::{Cause, Fault, Layer};
 
-// The longest row, and the shortest buffer that a get takes.
-const LONGEST: usize = 192;
-
-// The highest key.
-const LAST: u16 = 1_023;
-
-// Whether a row can be kept under a key.
-pub fn check_row(key: Key, row: &[u8]) -> Result<(), Fault>
-    ensures { MatchResult result (λ _. Fit key.number row.now) (λ f. (f ≡ told Store Range) × (Fit key.number row.now → ⊥)) }
-{
-    if key.number > LAST || row.is_empty() || row.len() > LONGEST {
-        return Err(Fault::new(Layer::Store, Cause::Range));
-    }
-    Ok(())
-}
-
 impl Entry {
-    pub fn new(key: Key, row: &[u8]) -> Entry
-        requires { Fit key.number row.now }
-        ensures key { result.key ≡ key.number }
-        ensures bytes { bytes_in result ≡ row.now }
+    // A row with its key, if it can be kept under it.
+    pub fn new(key: Key, row: &[u8]) -> Result<Entry, Fault>
+        ensures { MatchResult result (λ e. Holds key.number row.now e) (λ f. (f ≡ told Store Range) × (Fit key.number row.now → ⊥)) }
     {
-        let mut bytes = [0; 192];
-        bytes[0..row.len()].copy_from_slice(row);
-        Entry {
-            key: key.number,
-            len: row.len(),
-            bytes,
+        let range = Fault::new(Layer::Store, Cause::Range);
+        if key.number > LAST || row.is_empty() {
+            return Err(range);
         }
+        let Ok(bytes) = ArrayVec::try_from(row) else {
+            return Err(range);
+        };
+        Ok(Entry {
+            key: key.number,
+            bytes,
+        })
     }
 
     // Copies the row to the front of the buffer, keeps the buffer's rest, and tells the length.
@@ -46,9 +34,9 @@ impl Entry {
         ensures size { result ≡ length (bytes_in self.now) }
         ensures whole { buffer.new ≡ bytes_in self.now ++ drop result buffer.old }
     {
-        let len = self.len;
-        buffer[0..len].copy_from_slice(&self.bytes[0..len]);
-        len
+        let row = self.bytes.as_slice();
+        buffer[..row.len()].copy_from_slice(row);
+        row.len()
     }
 }
 
@@ -56,12 +44,7 @@ impl Entry {
 pub fn find(entries: &[Entry], key: Key) -> Option<usize>
     ensures { Newest key.number entries.now result }
 {
-    for place in (0..entries.len()).rev() {
-        if entries[place].key == key.number {
-            return Some(place);
-        }
-    }
-    None
+    entries.iter().rposition(|entry| entry.key == key.number)
 }
 
 // Copies the row of a key to the front of the buffer.
@@ -76,6 +59,7 @@ pub fn get_from(entries: &[Entry], key: Key, buffer: &mut [u8]) -> Result<usize,
     }
     match find(entries, key) {
         Some(place) => Ok(entries[place].copy_to(buffer)),
+        // A length and no Option, since a rule of stores needs it: 0 tells that there is no row.
         None => Ok(0),
     }
 }

@@ -1,16 +1,16 @@
 // Stores: rows by their keys.
 #![tactic(auto)]
 
+mod calls;
 mod entries;
 mod entry;
-mod logs;
 mod rows;
 mod stores;
-mod tables;
 mod uses;
 mod writing;
 
 pub use entry::Key;
 pub use rows::Store;
-pub use stores::{Log, Table};
+pub use stores::{EntryStore, Log, Table};
 pub use uses::keep;
+pub use writing::{Append, Overwrite, Supersede};

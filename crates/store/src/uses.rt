@@ -5,7 +5,7 @@ use crate::entry::Key;
 use crate::rows::Store;
 use fault::Fault;
 
-// Puts a row and gets it back: the row comes back, and every other key answers as before.
+// Puts a row and gets it back: the row comes back, and every other key answers as before. Refused: as a put, which then changes nothing, and else as a get.
 pub fn keep<S: Store>(
     store: &mut S,
     key: Key,

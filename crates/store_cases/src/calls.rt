@@ -1,5 +1,6 @@
 // Calls of any store.
 use fault::Fault;
+use std::fmt::Display;
 use std::str::from_utf8;
 use store::{Key, Store};
 
@@ -9,15 +10,8 @@ pub fn call<S: Store>(rt: &HostRuntime, store: &mut S, line: &str) -> anyhow::Re
         "put" => put(rt, store, line, rest),
         "get" => get(rt, store, line, rest),
         "rewrite" => rewrite(rt, store, line, rest),
-        "held" => {
-            let held = store.held();
-            println!(rt; "{line} = {held}")?;
-            Ok(())
-        }
-        _ => {
-            println!(rt; "{line}")?;
-            Ok(())
-        }
+        "held" => told(rt, line, Ok(store.held())),
+        _ => Ok(println!(rt; "{line}")?),
     }
 }
 
@@ -27,9 +21,13 @@ fn key(text: &str) -> Key {
     }
 }
 
-fn told(rt: &HostRuntime, line: &str, answer: Result<(), Fault>) -> anyhow::Result<()> {
+fn told<A: Display + Drop>(
+    rt: &HostRuntime,
+    line: &str,
+    answer: Result<A, Fault>,
+) -> anyhow::Result<()> {
     match answer {
-        Ok(()) => println!(rt; "{line} = ok")?,
+        Ok(answer) => println!(rt; "{line} = {answer}")?,
         Err(fault) => println!(rt; "{line} = {fault}")?,
     }
     Ok(())
@@ -45,7 +43,7 @@ fn put<S: Store>(rt: &HostRuntime, store: &mut S, line: &str, rest: &str) -> any
         }
         None => store.put(key(name), text.as_bytes()),
     };
-    told(rt, line, answer)
+    told(rt, line, answer.map(|()| "ok"))
 }
 
 // `rewrite 3 n`: puts n rows under one key, one over another.
@@ -61,35 +59,26 @@ fn rewrite<S: Store>(
         let row = format!(in rt.alloc(); "{i}")?;
         answer = store.put(key(name), row.as_str().as_bytes());
     }
-    told(rt, line, answer)
+    told(rt, line, answer.map(|()| "ok"))
 }
 
 // `get 3 n`, with a buffer of n bytes that are all dots before.
 fn get<S: Store>(rt: &HostRuntime, store: &mut S, line: &str, rest: &str) -> anyhow::Result<()> {
     let (name, size) = rest.split_once(' ').unwrap_or((rest, "192"));
     let mut buffer = vec![in rt.alloc(); b'.'; size.parse::<usize>().unwrap_or(0)]?;
-    match store.get(key(name), buffer.as_mut_slice()) {
+    let answer = store.get(key(name), buffer.as_mut_slice());
+    let dots = buffer
+        .iter()
+        .rev()
+        .take_while(|byte| **byte == b'.')
+        .count();
+    match answer {
         Ok(length) => {
-            let dots = trailing_dots(buffer.as_slice());
             let shown = buffer.get(0..length.min(20)).unwrap_or(b"?");
             let text = from_utf8(shown).unwrap_or("?");
             println!(rt; "{line} = {length} bytes, {text}, then {dots} dots")?;
         }
-        Err(fault) => {
-            let dots = trailing_dots(buffer.as_slice());
-            println!(rt; "{line} = {fault}, {dots} dots")?;
-        }
+        Err(fault) => println!(rt; "{line} = {fault}, {dots} dots")?,
     }
     Ok(())
-}
-
-fn trailing_dots(bytes: &[u8]) -> usize {
-    let mut dots: usize = 0;
-    for byte in bytes.iter().rev() {
-        if *byte != b'.' {
-            return dots;
-        }
-        dots = dots.saturating_add(1);
-    }
-    dots
 }

@@ -3,20 +3,21 @@ use crate::calls::call;
 use fault::NotMade;
 use store::{Log, Table};
 
+// An enum and no `Box<dyn Store>`, since a rule of the gate needs it: no function may make a dyn value and hand it out.
 #[derive(Drop)]
 pub enum Made {
-    Nothing,
     Table(Table),
     Log(Log),
 }
 
 // Makes what a line asks for, or has the store that was made do it.
-pub fn answer(rt: &HostRuntime, made: Made, line: &str) -> anyhow::Result<Made> {
+pub fn answer(rt: &HostRuntime, made: &mut Option<Made>, line: &str) -> anyhow::Result<()> {
     match line.split_once(' ') {
-        Some(("table", size)) => report(rt, line, table(rt, size)),
-        Some(("log", size)) => report(rt, line, log(rt, size)),
-        _ => used(rt, made, line),
+        Some(("table", size)) => *made = report(rt, line, table(rt, size))?,
+        Some(("log", size)) => *made = report(rt, line, log(rt, size))?,
+        _ => used(rt, made, line)?,
     }
+    Ok(())
 }
 
 fn number(text: &str) -> usize {
@@ -31,36 +32,24 @@ fn log(rt: &HostRuntime, size: &str) -> Result<Made, NotMade> {
     Ok(Made::Log(Log::new(rt.alloc(), number(size))?))
 }
 
-fn report(rt: &HostRuntime, line: &str, made: Result<Made, NotMade>) -> anyhow::Result<Made> {
-    match made {
-        Ok(made) => {
-            println!(rt; "{line} = made")?;
-            Ok(made)
-        }
-        Err(NotMade::Refused(fault)) => {
-            println!(rt; "{line} = {fault}")?;
-            Ok(Made::Nothing)
-        }
-        Err(NotMade::Memory) => {
-            println!(rt; "{line} = no memory")?;
-            Ok(Made::Nothing)
-        }
+fn report(
+    rt: &HostRuntime,
+    line: &str,
+    made: Result<Made, NotMade>,
+) -> anyhow::Result<Option<Made>> {
+    match &made {
+        Ok(_) => println!(rt; "{line} = made")?,
+        Err(NotMade::Refused(fault)) => println!(rt; "{line} = {fault}")?,
+        Err(NotMade::Memory) => println!(rt; "{line} = no memory")?,
     }
+    Ok(made.ok())
 }
 
-fn used(rt: &HostRuntime, made: Made, line: &str) -> anyhow::Result<Made> {
+fn used(rt: &HostRuntime, made: &mut Option<Made>, line: &str) -> anyhow::Result<()> {
     match made {
-        Made::Nothing => {
-            println!(rt; "{line}")?;
-            Ok(Made::Nothing)
-        }
-        Made::Table(mut table) => {
-            call(rt, &mut table, line)?;
-            Ok(Made::Table(table))
-        }
-        Made::Log(mut log) => {
-            call(rt, &mut log, line)?;
-            Ok(Made::Log(log))
-        }
+        None => println!(rt; "{line}")?,
+        Some(Made::Table(table)) => call(rt, table, line)?,
+        Some(Made::Log(log)) => call(rt, log, line)?,
     }
+    Ok(())
 }

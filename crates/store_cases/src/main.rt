@@ -4,15 +4,12 @@
 mod calls;
 mod made;
 
-use made::Made;
 use std::io::{BufRead, BufReader};
 
 fn main(rt: HostRuntime) -> anyhow::Result<()> {
-    let mut made = Made::Nothing;
+    let mut made = None;
     for line in BufReader::new(rt.alloc(), rt.stdin())?.lines(rt.alloc()) {
-        let line = line?;
-        made = made::answer(&rt, made, line.as_str())?;
+        made::answer(&rt, &mut made, line?.as_str())?;
     }
-    drop(made);
     Ok(())
 }

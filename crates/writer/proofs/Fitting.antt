@@ -9,8 +9,7 @@ use Rattle.message.specs.declared.kinds.Kind.TheVariants.{Listed}
 use Rattle.stamp.specs.declared.civil.Stamp.{Stamp}
 use Rattle.stamp.specs.Stamps.{Stamped}
 use Rattle.property.specs.Values.{Part, uid, dtstamp, sequence, organizer, attendee, summary, dtstart, dtend, rdate, status, basis, property_of, name_text, After, Says}
-use Rattle.writer.specs.Putting.{Put, Puts, PutLine, line_of, longest, widest}
-use Rattle.writer.proofs.Chains.{put_more, put_same}
+use Rattle.writer.specs.Putting.{line_of, longest, widest}
 use Rattle.writer.proofs.Passing.{passes, every}
 use Rattle.writer.proofs.Legible.{Legible, joined, same, stamp_legible, meeting_legible, sequence_legible, title_legible, period_legible, attendee_legible}
 
@@ -88,19 +87,6 @@ fit_line p text s =
       short = omega (arith, n.short, t.legible.short, length-append (name_text (property_of p)) text);
     }
 
--- a line, put as its name, its text and CR LF
-pub put_parts : {a b c d : List ℕ} {i j k l : ℕ} (p : Part) (name : List ℕ) → name ≡ name_text (property_of p) → Put a b name i j → Puts (Says p) b c j k → Put c d (13 ∷ (10 ∷ [])) k l → PutLine a d p i l
-put_parts p name e f t g =
-    let line = put_more (put_more (put_same e f) t.put) g in
-    let room = (named (property_of p)).room in
-    let text = parted p t.text t.said in
-    record {
-      text = t.text;
-      said = t.said;
-      put = line;
-      short = omega (arith, text.legible.short, ap length e, f.size, t.put.size, g.size);
-    }
-
--- the text of a part ends in the room for it
-pub text_room : {b c : List ℕ} {j k : ℕ} (p : Part) → Puts (Says p) b c j k → k ≤ j + widest (property_of p)
-text_room p t = omega (arith, (parted p t.text t.said).legible.short, t.put.size)
+-- the line of a part has room, with its CR LF
+pub line_room : (p : Part) (text : List ℕ) → Says p text → length (name_text (property_of p)) + length text + 2 ≤ longest (property_of p)
+line_room p text s = omega (arith, (parted p text s).legible.short, (named (property_of p)).room)

@@ -1,4 +1,3 @@
-pub mod Chains
 pub mod Passing
 pub mod Legible
 pub mod Fitting

@@ -1,20 +1,14 @@
--- What writing into a buffer does.
-use Rattle.std.specs.Prelude.{◌≡◌, ℕ, ◌+◌, ◌-◌, ◌≤◌, List, ◌++◌, length, take, drop, Some, None, Option}
+-- The lines of parts: their names and texts, the room that they take, and the values that have one.
+use Rattle.std.specs.Prelude.{◌≡◌, ℕ, ◌+◌, ◌-◌, ◌≤◌, List, ◌++◌, length, Some, None, Option}
 use Rattle.fault.specs.declared.kinds.Property.{Property}
 use Rattle.fault.specs.declared.kinds.Property.TheVariants as property
 use Rattle.stamp.specs.Stamps.{Real}
-use Rattle.lines.specs.Content.{Content, closed}
+use Rattle.lines.specs.Content.{Content}
 use Rattle.property.specs.declared.kinds.Door.{Door}
 use Rattle.property.specs.declared.kinds.Heard.{Heard}
 use Rattle.property.specs.declared.kinds.Attendee.{Attendee}
 use Rattle.property.specs.declared.kinds.Attendee.TheVariants.{Invited, Answering}
-use Rattle.property.specs.Values.{Part, uid, dtstamp, sequence, organizer, attendee, summary, dtstart, dtend, rdate, status, basis, property_of, name_text, Says, TitleText, ReplyText, shown_text}
-
--- bytes are put in place of those that stood at a place, and nothing else changes
-pub record Put (old new bytes : List ℕ) (from to : ℕ) : Type 0 where
-  pub size : to ≡ from + length bytes
-  pub front : take to new ≡ take from old ++ bytes
-  pub rest : drop to new ≡ drop to old
+use Rattle.property.specs.Values.{Part, uid, dtstamp, sequence, organizer, attendee, summary, dtstart, dtend, rdate, status, basis, property_of, name_text, TitleText, ReplyText, shown_text}
 
 -- the line of a part: the property's name, and a text of the part
 abbrev pub line_of : Part → List ℕ → Content
@@ -38,22 +32,9 @@ longest property.Basis = 26
 abbrev pub widest : Property → ℕ
 widest p = longest p - (length (name_text p) + 2)
 
--- some text of a kind is put at a place
-pub record Puts (P : List ℕ → Type 0) (old new : List ℕ) (from to : ℕ) : Type 0 where
-  pub text : List ℕ
-  pub said : P text
-  pub put : Put old new text from to
-
 -- the answer that the site shows, and the stamp of the REPLY
 abbrev pub HeardText : Heard → List ℕ → Type 0
 HeardText h text = (reply : List ℕ) × ReplyText h.at reply × (text ≡ shown_text h.shown ++ reply)
-
--- the line of a part is put at a place
-pub record PutLine (old new : List ℕ) (p : Part) (from to : ℕ) : Type 0 where
-  pub text : List ℕ
-  pub said : Says p text
-  pub put : Put old new (closed (line_of p text)) from to
-  pub short : to ≤ from + longest (property_of p)
 
 -- a door that is one, and what was heard of it with a stamp that is one
 abbrev pub DoorRanged : Door → Type 0

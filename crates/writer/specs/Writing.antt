@@ -1,6 +1,7 @@
 -- What writing a message answers.
 use Rattle.std.specs.Prelude.{◌≡◌, ℕ, ◌+◌, ◌<◌, ◌≤◌, true, false, List, [], ◌∷◌, length, take, drop, Some, None, Ok, Err, codes, Option, Result}
 use Rattle.std.specs.List.{flat_map}
+use Rattle.arrayvec.specs.ArrayVec.{ArrayVec}
 use Rattle.fault.specs.declared.kinds.Cause.TheVariants.{Short, Range}
 use Rattle.fault.specs.declared.kinds.Fault.{Fault}
 use Rattle.fault.specs.declared.kinds.Layer.TheVariants.{Framing}
@@ -14,7 +15,7 @@ use Rattle.message.specs.declared.kinds.Method.{Method}
 use Rattle.message.specs.Names.{method_text}
 use Rattle.message.specs.Meaning.{parts_of}
 use Rattle.message.specs.Grammar.{State, AllFit, Leads, Means, Refused, Same}
-use Rattle.writer.specs.Putting.{Put, Ranged, longest}
+use Rattle.writer.specs.Putting.{Ranged, longest}
 
 -- every part is in its range
 abbrev pub AllRanged : List Part → Type 0
@@ -44,12 +45,22 @@ head m =
 abbrev pub foot : List Content
 foot = frame (codes "END") (codes ":VEVENT") ∷ (frame (codes "END") (codes ":VCALENDAR") ∷ [])
 
--- lines are put, which lead from one state to another
-pub record Wrote (old new : List ℕ) (from to : ℕ) (s t : State) : Type 0 where
+-- a text of lines, which lead from one state to another
+pub record Lines (s t : State) (text : List ℕ) : Type 0 where
   pub lines : List Content
   pub fit : AllFit lines
-  pub put : Put old new (flat_map closed lines) from to
+  pub written : text ≡ flat_map closed lines
   pub leads : Leads true s lines t
+
+-- what writing the text of a part answers: a text of it, or none where it is out of its range
+abbrev pub TextOf : Part → Option (ArrayVec ℕ) → Type 0
+TextOf p None = Ranged p → ⊥
+TextOf p (Some text) = Says p text.items
+
+-- what writing the text of a message answers: its house text, or none where a part is out of its range
+abbrev pub HouseText : Message → Option (ArrayVec ℕ) → Type 0
+HouseText m None = InRange m → ⊥
+HouseText m (Some text) = Means true text.items m
 
 -- a message that is written: its house text stands at the buffer's front, and the buffer's rest is kept
 pub record Writ (m : Message) (old new : List ℕ) (n : ℕ) : Type 0 where
@@ -95,6 +106,6 @@ RereadsValue p None = Ranged p → ⊥
 RereadsValue p (Some v) = Ranged p × (part_of v ≡ p)
 
 -- what writing back the text of a property that was read answers: the same text
-abbrev pub RewritesValue : Property → List ℕ → Option (List ℕ × ℕ) → Type 0
+abbrev pub RewritesValue : Property → List ℕ → Option (ArrayVec ℕ) → Type 0
 RewritesValue q text None = (p : Part) → property_of p ≡ q → Says p text → ⊥
-RewritesValue q text (Some (bytes, n)) = take n bytes ≡ text
+RewritesValue q text (Some again) = again.items ≡ text

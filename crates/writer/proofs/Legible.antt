@@ -1,8 +1,12 @@
 -- The texts of values: their bytes can be shown, and they are short.
-use Rattle.std.proofs.Common.{◌≡◌, ℕ, ◌+◌, ◌/◌, ◌%◌, ◌<◌, ◌≤◌, true, ltb, List, ◌++◌, length, Some, None, codes, Option, sym, refl, subst, arith, length-append}
+use Rattle.std.proofs.Common.{◌≡◌, ℕ, ◌+◌, ◌/◌, ◌%◌, ◌<◌, ◌≤◌, Bool, true, ltb, List, ◌++◌, length, get_or, Some, None, codes, Option, sym, refl, subst, arith, length-append}
+use Rattle.std.specs.List.{list_all}
+use Rattle.std.proofs.lemmas.List.Elements.{All-get_or, All-from_get_or}
+use Rattle.std.proofs.lemmas.List.Folds.{list_all-append}
+use Rattle.std.proofs.lemmas.List.Sums.{AllPass-from_list_all, list_all-from_AllPass}
 use Rattle.std.proofs.lemmas.Bool.{and_from, le-leb, ltb-true, cond_both}
 use Rattle.std.proofs.lemmas.Bool.Decides.{nat_tests}
-use Rattle.lines.specs.Bytes.{printable}
+use Rattle.lines.specs.Bytes.{printable, Every}
 use Rattle.stamp.specs.Calendar.{two, month_length}
 use Rattle.stamp.specs.Stamps.{Stamped, day_text, time_text}
 use Rattle.stamp.specs.declared.civil.Day.{Day}
@@ -18,16 +22,19 @@ use Rattle.property.specs.declared.kinds.Answer.{Answer}
 use Rattle.property.specs.declared.kinds.Answer.TheVariants.{Accepted, Declined, Tentative}
 use Rattle.property.specs.declared.kinds.Attendee.{Attendee}
 use Rattle.property.specs.declared.kinds.Attendee.TheVariants.{Invited, Answering}
-use Rattle.writer.proofs.Passing.{passes, passes_append, passes_like}
+
+-- a test of every byte, by places
+pub every : (P : ℕ → Bool) (text : List ℕ) → list_all P text ≡ true → Every P text
+every P text p k h = All-get_or (λ (x : ℕ). P x ≡ true) text k 0 h (AllPass-from_list_all P text p)
 
 pub record Legible (n : ℕ) (text : List ℕ) : Type 0 where
-  pub shown : passes printable text ≡ true
+  pub shown : list_all printable text ≡ true
   pub short : length text ≤ n
 
 -- a text behind another
 pub joined : {m n : ℕ} (x y : List ℕ) → Legible m x → Legible n y → Legible (m + n) (x ++ y)
 joined x y p q = record {
-  shown = passes_append printable x y p.shown q.shown;
+  shown = rw (list_all-append printable x y) (and_from _ _ p.shown q.shown);
   short = omega (arith, p.short, q.short, length-append x y);
 }
 
@@ -99,7 +106,7 @@ shown_title x h = grind (arith, nat_tests)
 
 pub title_legible : (text : List ℕ) → TitleText text → Legible 40 text
 title_legible text t = record {
-  shown = passes_like printable title_byte shown_title text t.fit;
+  shown = list_all-from_AllPass printable text (All-from_get_or (λ (x : ℕ). printable x ≡ true) text 0 (λ k h. shown_title (get_or text k 0) (t.fit k h)));
   short = t.short;
 }
 

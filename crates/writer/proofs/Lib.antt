@@ -1,4 +1,3 @@
-pub mod Passing
 pub mod Legible
 pub mod Fitting
 pub mod Ordered

@@ -1,6 +1,6 @@
 -- Lines one behind another, which lead on.
 use Rattle.std.proofs.Common.{◌≡◌, ℕ, ◌+◌, ◌≤◌, true, List, [], ◌∷◌, ◌++◌, length, get_or, take, drop, Some, codes, sym, refl, ap, ◌∙◌, subst, arith, length-append}
-use Rattle.std.specs.List.{flat_map, slice_get}
+use Rattle.std.specs.List.{flat_map, list_all, slice_get}
 use Rattle.std.proofs.lemmas.List.{append-nil, length-take-le, take_all}
 use Rattle.std.proofs.lemmas.List.Concat.{flat_map-append}
 use Rattle.lines.specs.Content.{Content, Fit, closed}
@@ -10,11 +10,10 @@ use Rattle.message.specs.declared.kinds.Method.{Method}
 use Rattle.message.specs.declared.kinds.Method.TheVariants.{Request, Cancel, Reply}
 use Rattle.message.specs.Meaning.{wanted, required, belongs, parts_of, method_of}
 use Rattle.message.specs.Grammar.{State, calendar, version, product, method, event, inside, closing, done, adds, ends, Leads, AllFit, Means}
-use Rattle.writer.proofs.Ordered.{placed, ordered, enough, roomy}
-use Rattle.writer.specs.Putting.{line_of, longest}
-use Rattle.writer.specs.Writing.{Lines, head, foot, frame, room}
-use Rattle.writer.proofs.Fitting.{fit_line, name_kind, line_room}
-use Rattle.writer.proofs.Passing.{passes, every}
+use Rattle.writer.proofs.Ordered.{placed, ordered, enough, room, roomy}
+use Rattle.writer.specs.Writing.{head, foot, frame}
+use Rattle.writer.proofs.Fitting.{line_of, longest, fit_line, name_kind, line_room}
+use Rattle.writer.proofs.Legible.{every}
 use Rattle.lines.specs.Bytes.{name_byte, printable, separates}
 use Rattle.message.specs.Names.{method_text}
 
@@ -25,6 +24,13 @@ all_fit_append (l ∷ ls) ks (f, a) b = (f, all_fit_append ls ks a b)
 leads_append : (s t u : State) (ls ks : List Content) → Leads true s ls t → Leads true t ks u → Leads true s (ls ++ ks) u
 leads_append s t u [] ks e b = let P : State → Type 0 = λ x. Leads true x ks u in subst P (sym e) b
 leads_append s t u (l ∷ ls) ks (v, st, a) b = (v, st, leads_append v t u ls ks a b)
+
+-- a text of lines, which lead from one state to another
+pub record Lines (s t : State) (text : List ℕ) : Type 0 where
+  pub lines : List Content
+  pub fit : AllFit lines
+  pub written : text ≡ flat_map closed lines
+  pub leads : Leads true s lines t
 
 -- lines, and the lines behind them
 pub lines_more : {s t u : State} {x y : List ℕ} → Lines s t x → Lines t u y → Lines s u (x ++ y)
@@ -44,7 +50,7 @@ lines_part m parts p text said w own = record {
   leads = (inside m (parts ++ (p ∷ [])), adds p w (name_kind p) own said refl, refl);
 }
 
-frame_fit : (name text : List ℕ) → 1 ≤ length name → passes name_byte name ≡ true → 1 ≤ length text → separates (get_or text 0 0) ≡ true → passes printable text ≡ true → length (name ++ text) ≤ 75 → Fit (frame name text)
+frame_fit : (name text : List ℕ) → 1 ≤ length name → list_all name_byte name ≡ true → 1 ≤ length text → separates (get_or text 0 0) ≡ true → list_all printable text ≡ true → length (name ++ text) ≤ 75 → Fit (frame name text)
 frame_fit name text n p t s q l = record { named = n; naming = every name_byte name p; some = t; parted = s; shown = every printable text q; short = l }
 
 method_fit : (m : Method) → Fit (frame (codes "METHOD") (method_text m))

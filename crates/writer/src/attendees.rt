@@ -2,7 +2,8 @@
 ghost use Rattle.std.specs.Prelude.{◌≡◌, ◌≤◌, length};
 ghost use Rattle.stamp.specs.Stamps.{Real};
 ghost use Rattle.property.specs.Values.{AttendeeText, Partstat, door_of, answer_text, shown_text};
-ghost use Rattle.writer.specs.Putting.{HeardText, AttendeeRanged};
+ghost use Rattle.writer.specs.Ranges.{AttendeeRanged};
+ghost use Rattle.writer.specs.Writing.{HeardText};
 
 use crate::numbers::door_text;
 use crate::putting::{Text, joined};

@@ -1,7 +1,7 @@
 // The numbered things: meetings, doors and SEQUENCE.
 ghost use Rattle.std.specs.Prelude.{◌≤◌, codes};
 ghost use Rattle.property.specs.Values.{After, MeetingText, DoorText, SequenceText};
-ghost use Rattle.writer.specs.Putting.{DoorRanged};
+ghost use Rattle.writer.specs.Ranges.{DoorRanged};
 
 use crate::digits::{four_digits, leading_zeros};
 use crate::putting::{Text, joined};

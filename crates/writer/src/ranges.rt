@@ -1,7 +1,7 @@
 // Values that are in their ranges.
 ghost use Rattle.std.specs.Prelude.{Decides};
 ghost use Rattle.property.specs.Values.{part_of};
-ghost use Rattle.writer.specs.Putting.{Ranged, AttendeeRanged};
+ghost use Rattle.writer.specs.Ranges.{Ranged, AttendeeRanged};
 
 use property::{Attendee, Value};
 

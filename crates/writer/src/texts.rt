@@ -41,10 +41,7 @@ fn house_text(message: &Message) -> Option<House>
     ensures { HouseText message.now result }
 {
     let mut text = begin(message.method());
-    for place in 0..MOST {
-        let Some(value) = message.value(place) else {
-            break;
-        };
+    for value in (0..MOST).map_while(|place| message.value(place)) {
         let said = value_text(&value)?;
         put_line(&mut text, name_text(value.property()), &said);
     }

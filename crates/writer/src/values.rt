@@ -1,7 +1,7 @@
 // The lines of values: a property's name, and the text of its value.
 ghost use Rattle.std.specs.Prelude.{◌≡◌};
 ghost use Rattle.property.specs.Values.{part_of, name_text, title_text, TitleText, Says, summary};
-ghost use Rattle.writer.specs.Putting.{Ranged};
+ghost use Rattle.writer.specs.Ranges.{Ranged};
 ghost use Rattle.writer.specs.Writing.{TextOf};
 
 use crate::attendees::attendee_text;

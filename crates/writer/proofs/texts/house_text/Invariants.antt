@@ -1,5 +1,10 @@
+use Rattle.std.proofs.Common.{◌≡◌}
 use Rattle.writer.proofs.Written.{Begun}
 use Rattle.writer.proofs.texts.house_text.Given as goal
 
-abbrev pub invariant-loop-place : goal.invariant-loop-place
-invariant-loop-place l = Begun l.message l.place l.text.items
+abbrev pub invariant-loop-value : goal.invariant-loop-value
+invariant-loop-value l = record {
+  begun : Begun l.message l.value-iterator.iter.start l.text.items;
+  asks : l.value-iterator.f.0.now ≡ l.message;
+  end : l.value-iterator.iter.end ≡ 13;
+}

@@ -1,5 +1,5 @@
 -- Reading undoes writing, and writing undoes reading.
-use Rattle.std.proofs.Common.{◌≡◌, ℕ, true, false, List, take, Some, None, Ok, Err, Option, Result, sym, ◌∙◌, subst}
+use Rattle.std.proofs.Common.{◌≡◌, ℕ, false, List, take, Some, None, Ok, Err, Option, Result, sym, ◌∙◌}
 use Rattle.fault.specs.declared.kinds.Fault.{Fault}
 use Rattle.message.specs.declared.kinds.Message.{Message}
 use Rattle.message.specs.Grammar.{Means, Alone}
@@ -15,14 +15,9 @@ use Rattle.fault.specs.declared.kinds.Property.{Property}
 use Rattle.arrayvec.specs.ArrayVec.{ArrayVec}
 use Rattle.writer.proofs.Ranging.{meant_ranged, said_ranged}
 
-pub read_back : (m : Message) (old new text : List ℕ) (n : ℕ) (r : Result Message Fault) → Writ m old new n → text ≡ take n new → Alone text r → Rereads m old r
-read_back m old new text n r w e a =
-    let P : List ℕ → Type 0 = λ x. Means true x m in
-    by r (any_house text m (subst P (sym e) w.text)) a
-  where
-    by : (r : Result Message Fault) → Means false text m → Alone text r → Rereads m old r
-    by (Ok k) means (one, _) = (w.ranged, w.long, (sym (one m means).0, sym (one m means).1))
-    by (Err f) means (none, _) = absurd (none m means)
+pub read_back : (m : Message) (old new : List ℕ) (n : ℕ) (r : Result Message Fault) → Writ m old new n → Alone (take n new) r → Rereads m old r
+read_back m old new n (Ok k) w (one, _) = let same = one m (any_house (take n new) m w.text) in (w.ranged, w.long, (sym same.0, sym same.1))
+read_back m old new n (Err f) w (none, _) = absurd (none m (any_house (take n new) m w.text))
 
 pub written_back : (m : Message) (text old new : List ℕ) (r : Result ℕ Fault) → Means false text m → Alone text (Ok m) → Writes m old new r → Rewrites text old new r
 written_back m text old new (Ok n) means (one, _) w = record {

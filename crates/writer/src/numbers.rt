@@ -1,12 +1,26 @@
 // The numbered things: meetings, doors and SEQUENCE.
-ghost use Rattle.std.specs.Prelude.{◌≤◌, codes};
+ghost use Rattle.std.specs.Prelude.{◌≡◌, ◌≤◌, codes};
+ghost use Rattle.property.specs.Bytes.{four};
 ghost use Rattle.property.specs.Values.{After, MeetingText, DoorText, SequenceText};
 ghost use Rattle.writer.specs.Ranges.{DoorRanged};
 
-use crate::digits::{four_digits, leading_zeros};
 use crate::putting::{Text, joined};
+use itoa::Buffer;
 use property::{Door, Meeting};
 use rank::Sequence;
+
+// Four digits with zeros in front. By hand: a formatter's `{:04}` hands out a result, as if there might be no room.
+fn four_digits(number: u16) -> [u8; 4]
+    requires { number ≤ 9999 }
+    ensures { result ≡ four number }
+{
+    [
+        b'0' + (number / 1000) as u8,
+        b'0' + (number / 100 % 10) as u8,
+        b'0' + (number / 10 % 10) as u8,
+        b'0' + (number % 10) as u8,
+    ]
+}
 
 // The text of UID.
 pub(crate) fn meeting_text(meeting: Meeting) -> Text
@@ -30,7 +44,6 @@ pub(crate) fn sequence_text(sequence: Sequence) -> Text
     requires { sequence.number ≤ 9999 }
     ensures { After (codes ":") (SequenceText sequence) result.items }
 {
-    let digits = four_digits(sequence.number);
-    let zeros = leading_zeros(sequence.number);
-    joined(&[b":", &digits[zeros..]])
+    let mut digits = Buffer::new();
+    joined(&[b":", digits.format(sequence.number).as_bytes()])
 }

@@ -15,7 +15,7 @@ pub fn reread(message: &Message, buffer: &mut [u8]) -> Result<Message, Fault>
     ensures { Rereads message.now buffer.old result }
 {
     let length = write(message, buffer)?;
-    Message::read(&buffer[0..length])
+    Message::read(&buffer[..length])
 }
 
 // Reads a text and writes it back: a house text comes out as it was, and any other text as the house text of the same message.

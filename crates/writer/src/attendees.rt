@@ -9,7 +9,7 @@ use crate::numbers::door_text;
 use crate::putting::{Text, joined};
 use property::{Answer, Attendee, Door, Heard};
 
-// A match to byte strings: Display writes characters, and a text is bytes.
+// An answer's text, by a match to byte strings: Display writes characters, and a text is bytes.
 fn answer_text(answer: Answer) -> &'static [u8]
     ensures value { result.now ≡ answer_text answer }
     ensures size { length result.now ≤ 12 }
@@ -21,6 +21,7 @@ fn answer_text(answer: Answer) -> &'static [u8]
     }
 }
 
+// The text of the answer that the site shows.
 fn shown_text(shown: Option<Answer>) -> &'static [u8]
     ensures value { result.now ≡ shown_text shown }
     ensures size { length result.now ≤ 12 }
@@ -54,6 +55,7 @@ fn partstat_text(attendee: Attendee) -> Text
     }
 }
 
+// The door that an attendee is.
 fn door_of(attendee: Attendee) -> Door
     ensures { result ≡ door_of attendee }
 {

@@ -5,6 +5,7 @@ ghost use Rattle.writer.specs.Ranges.{Ranged, AttendeeRanged};
 
 use property::{Attendee, Value};
 
+// Whether an attendee's door is one, and what was heard of it has a stamp that is one.
 fn is_attendee_ranged(attendee: Attendee) -> bool
     ensures { Decides result (AttendeeRanged attendee) }
 {

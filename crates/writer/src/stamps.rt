@@ -1,5 +1,5 @@
 // Stamps, and the two stamps of a period.
-// Each asks for stamps that are ones: a type for those would be made again from each value, whose test comes first anyway.
+// Each asks for stamps that are ones, and has no type for them: it would be made at each call, of a value that was tested before.
 ghost use Rattle.std.specs.Prelude.{codes};
 ghost use Rattle.stamp.specs.Stamps.{Stamped, Real};
 ghost use Rattle.property.specs.Values.{After, PeriodText};

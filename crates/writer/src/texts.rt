@@ -17,7 +17,7 @@ const LONGEST: usize = 768;
 // The most properties that a message has.
 const MOST: usize = 13;
 
-// The text of a message.
+// A text with room for the longest.
 type House = ArrayVec<u8, LONGEST>;
 
 // Writes the one house text of a message to the buffer's front, keeps the buffer's rest, and tells the length.
@@ -40,16 +40,16 @@ pub fn write(message: &Message, buffer: &mut [u8]) -> Result<usize, Fault>
 fn house_text(message: &Message) -> Option<House>
     ensures { HouseText message.now result }
 {
-    let mut text = begin(message.method());
+    let mut text = head_text(message.method());
     for value in (0..MOST).map_while(|place| message.value(place)) {
         let said = value_text(&value)?;
         put_line(&mut text, name_text(value.property()), &said);
     }
-    end(&mut text);
+    put_foot(&mut text);
     Some(text)
 }
 
-// A match to byte strings: Display writes characters, and a text is bytes.
+// A method's text, by a match to byte strings: Display writes characters, and a text is bytes.
 fn method_text(method: Method) -> &'static [u8]
     ensures value { result.now ≡ method_text method }
     ensures size { length result.now ≤ 8 }
@@ -62,8 +62,8 @@ fn method_text(method: Method) -> &'static [u8]
 }
 
 // The lines before the properties.
-fn begin(method: Method) -> House
-    ensures put { result.items ≡ flat_map closed (head method) }
+fn head_text(method: Method) -> House
+    ensures value { result.items ≡ flat_map closed (head method) }
     ensures size { length result.items ≤ 89 }
 {
     joined(&[
@@ -77,18 +77,18 @@ fn begin(method: Method) -> House
     ])
 }
 
+// Puts the lines behind them.
+fn put_foot(text: &mut House)
+    requires { length text.old.items + 27 ≤ 768 }
+    ensures { text.new.items ≡ text.old.items ++ flat_map closed foot }
+{
+    put_all(text, &[b"END:VEVENT\r\n", b"END:VCALENDAR\r\n"]);
+}
+
 // Puts a line: its name, its text from the separator on, and CR LF.
 fn put_line(text: &mut House, name: &[u8], said: &[u8])
     requires { length text.old.items + (length name.now + length said.now + 2) ≤ 768 }
     ensures { text.new.items ≡ text.old.items ++ closed (record { name = name.entry.now; text = said.now }) }
 {
     put_all(text, &[name, said, b"\r\n"]);
-}
-
-// Puts the lines behind the properties.
-fn end(text: &mut House)
-    requires { length text.old.items + 27 ≤ 768 }
-    ensures { text.new.items ≡ text.old.items ++ flat_map closed foot }
-{
-    put_all(text, &[b"END:VEVENT\r\n", b"END:VCALENDAR\r\n"]);
 }

@@ -12,7 +12,7 @@ use crate::stamps::{moment_text, period_text};
 use fault::Property;
 use property::{Title, Value};
 
-// A property's name. A match to byte strings: Display writes characters, and a text is bytes.
+// A property's name, by a match to byte strings: Display writes characters, and a text is bytes.
 pub(crate) fn name_text(property: Property) -> &'static [u8]
     ensures { result.now ≡ name_text property }
 {
@@ -38,6 +38,7 @@ pub(crate) fn value_text(value: &Value) -> Option<Text>
     is_ranged(value).then(|| ranged_text(value))
 }
 
+// The text of a value that is in its range.
 fn ranged_text(value: &Value) -> Text
     requires { Ranged (part_of value.now) }
     ensures { Says (part_of value.now) result.items }

@@ -14,7 +14,7 @@ turn (Some k) Asked Out start end next last (_, (_, at, on)) e = inr (on, rw (�
 pub loop-value-init : goal.loop-value-init
 loop-value-init c =
     rw (c.into_iter-value-iterator.ensures.into_iter_gives, c.map_while-value-items.ensures.source, c.map_while-value-items.ensures.closure) record {
-      begun = begun c.args.message.now c.method.result _ c.method.ensures c.begin-text.ensures.put c.begin-text.ensures.size;
+      begun = begun c.args.message.now c.method.result _ c.method.ensures c.head_text-text.ensures.value c.head_text-text.ensures.size;
       asks = refl;
       end = refl;
     }
@@ -43,4 +43,4 @@ pub returns : goal.returns
 returns c =
     let s = c.in-None.ensures.steps in
     let all : length (parts_of c.args.message.now) ≤ c.loop-value.value-iterator.iter.start = elim (turn s.0 _ _ _ _ _ _ s.1 s.2) [ inl out ↦ omega (arith, few c.args.message.now, out.0, c.loop-value.invariant.end) | inr t ↦ search rules ] in
-    whole c.args.message.now _ _ _ all c.loop-value.invariant.begun c.end.ensures
+    whole c.args.message.now _ _ _ all c.loop-value.invariant.begun c.put_foot.ensures

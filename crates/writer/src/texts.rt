@@ -28,9 +28,7 @@ pub fn write(message: &Message, buffer: &mut [u8]) -> Result<usize, Fault>
     if buffer.len() < LONGEST {
         return Err(Fault::new(Layer::Framing, Cause::Short));
     }
-    let Some(text) = house_text(message) else {
-        return Err(Fault::new(Layer::Framing, Cause::Range));
-    };
+    let text = house_text(message).ok_or(Fault::new(Layer::Framing, Cause::Range))?;
     let length = text.len();
     buffer[..length].copy_from_slice(&text);
     Ok(length)

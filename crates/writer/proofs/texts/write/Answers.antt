@@ -2,7 +2,7 @@ use Rattle.std.proofs.Common.{◌≡◌, ◌++◌, ◌≤◌, ℕ, true, List, l
 use Rattle.std.proofs.lemmas.List.{take_at, drop_at}
 use Rattle.message.specs.declared.kinds.Message.{Message}
 use Rattle.message.specs.Grammar.{Means}
-use Rattle.writer.specs.Writing.{Writ}
+use Rattle.writer.specs.Writing.{HouseText, Writ}
 use Rattle.writer.proofs.Ranging.{meant_ranged}
 use Rattle.writer.proofs.texts.write.Goals as goal
 
@@ -18,4 +18,5 @@ writ m old text n long means size = record {
 
 pub returns : goal.returns
 returns c =
-    rw (c.copy_from_slice.ensures.after, c.deref.ensures.0) (writ c.args.message.now c.args.buffer.now c.in-Some.text.items c.len-length.result c.if-buffer-lt-LONGEST.false c.in-Some.ensures c.len-length.ensures.value)
+    let means = subst (HouseText c.args.message.now) c.in_ok-text.ensures.ok_part c.house_text.ensures in
+    rw (c.copy_from_slice.ensures.after, c.deref.ensures.0) (writ c.args.message.now c.args.buffer.now c.in_ok-text.text.items c.len-length.result c.if-buffer-lt-LONGEST.false means c.len-length.ensures.value)

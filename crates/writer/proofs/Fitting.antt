@@ -1,23 +1,43 @@
 -- The line of a part is a content line, with a name that is listed.
-use Rattle.std.proofs.Common.{◌≡◌, ℕ, ◌+◌, ◌≤◌, true, List, [], ◌∷◌, ◌++◌, length, get_or, codes, refl, ap, ◌∙◌, arith, length-append}
+use Rattle.std.proofs.Common.{◌≡◌, ℕ, ◌+◌, ◌-◌, ◌≤◌, true, List, [], ◌∷◌, ◌++◌, length, get_or, codes, refl, ap, ◌∙◌, arith, length-append}
+use Rattle.std.specs.List.{list_all}
 use Rattle.fault.specs.declared.kinds.Property.{Property}
 use Rattle.fault.specs.declared.kinds.Property.TheVariants as property
 use Rattle.lines.specs.Bytes.{name_byte, printable, separates}
-use Rattle.lines.specs.Content.{Fit}
+use Rattle.lines.specs.Content.{Content, Fit}
 use Rattle.message.specs.Names.{kind_of}
 use Rattle.message.specs.declared.kinds.Kind.TheVariants.{Listed}
 use Rattle.stamp.specs.declared.civil.Stamp.{Stamp}
 use Rattle.stamp.specs.Stamps.{Stamped}
 use Rattle.property.specs.Values.{Part, uid, dtstamp, sequence, organizer, attendee, summary, dtstart, dtend, rdate, status, basis, property_of, name_text, After, Says}
-use Rattle.writer.specs.Putting.{Put, Puts, PutLine, line_of, longest, widest}
-use Rattle.writer.proofs.Chains.{put_more, put_same}
-use Rattle.writer.proofs.Passing.{passes, every}
-use Rattle.writer.proofs.Legible.{Legible, joined, same, stamp_legible, meeting_legible, sequence_legible, title_legible, period_legible, attendee_legible}
+use Rattle.writer.proofs.Legible.{every, Legible, joined, same, stamp_legible, meeting_legible, sequence_legible, title_legible, period_legible, attendee_legible}
+
+-- the line of a part: the property's name, and a text of the part
+abbrev pub line_of : Part → List ℕ → Content
+line_of p text = record { name = name_text (property_of p); text = text }
+
+-- the longest line of each property, with its CR LF
+abbrev pub longest : Property → ℕ
+longest property.Uid = 17
+longest property.Dtstamp = 26
+longest property.Sequence = 15
+longest property.Organizer = 29
+longest property.Attendee = 73
+longest property.Summary = 50
+longest property.Dtstart = 26
+longest property.Dtend = 24
+longest property.Rdate = 54
+longest property.Status = 18
+longest property.Basis = 26
+
+-- the most bytes of a property's text, from the separator on
+abbrev pub widest : Property → ℕ
+widest p = longest p - (length (name_text p) + 2)
 
 -- a property's name has name bytes, and is listed
 pub record Named (p : Property) : Type 0 where
   pub some : 1 ≤ length (name_text p)
-  pub naming : passes name_byte (name_text p) ≡ true
+  pub naming : list_all name_byte (name_text p) ≡ true
   pub listed : kind_of (name_text p) ≡ Listed p
   pub short : longest p ≤ 77
   pub room : length (name_text p) + 2 ≤ longest p
@@ -88,19 +108,6 @@ fit_line p text s =
       short = omega (arith, n.short, t.legible.short, length-append (name_text (property_of p)) text);
     }
 
--- a line, put as its name, its text and CR LF
-pub put_parts : {a b c d : List ℕ} {i j k l : ℕ} (p : Part) (name : List ℕ) → name ≡ name_text (property_of p) → Put a b name i j → Puts (Says p) b c j k → Put c d (13 ∷ (10 ∷ [])) k l → PutLine a d p i l
-put_parts p name e f t g =
-    let line = put_more (put_more (put_same e f) t.put) g in
-    let room = (named (property_of p)).room in
-    let text = parted p t.text t.said in
-    record {
-      text = t.text;
-      said = t.said;
-      put = line;
-      short = omega (arith, text.legible.short, ap length e, f.size, t.put.size, g.size);
-    }
-
--- the text of a part ends in the room for it
-pub text_room : {b c : List ℕ} {j k : ℕ} (p : Part) → Puts (Says p) b c j k → k ≤ j + widest (property_of p)
-text_room p t = omega (arith, (parted p t.text t.said).legible.short, t.put.size)
+-- the line of a part has room, with its CR LF
+pub line_room : (p : Part) (text : List ℕ) → Says p text → length (name_text (property_of p)) + length text + 2 ≤ longest (property_of p)
+line_room p text s = omega (arith, (parted p text s).legible.short, (named (property_of p)).room)

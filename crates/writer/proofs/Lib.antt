@@ -1,5 +1,3 @@
-pub mod Chains
-pub mod Passing
 pub mod Legible
 pub mod Fitting
 pub mod Ordered

@@ -1,7 +1,8 @@
 -- The parts of a message stand in the order of its method, and their lines have room.
-use Rattle.std.proofs.Common.{◌≡◌, ℕ, zero, suc, ◌+◌, ◌*◌, ◌<◌, ◌≤◌, true, List, [], ◌∷◌, ◌++◌, map, length, take, drop, Some, sym, refl, ap, subst, arith}
+use Rattle.std.proofs.Common.{◌≡◌, ℕ, zero, suc, ◌+◌, ◌*◌, ◌<◌, ◌≤◌, true, List, [], ◌∷◌, ◌++◌, map, length, take, drop, Some, refl, ap, ◌∙◌, subst, arith}
 use Rattle.std.specs.List.{slice_get}
-use Rattle.std.proofs.lemmas.List.{length-take, length-map, take_all}
+use Rattle.std.proofs.lemmas.List.{length-take, length-map, drop_more, take_more}
+use Rattle.std.proofs.lemmas.Option.{get_or_from_slice_get, slice_get_within}
 use Rattle.fault.specs.declared.kinds.Property.{Property}
 use Rattle.fault.specs.declared.kinds.Property.TheVariants as property
 use Rattle.property.specs.declared.kinds.Door.{Door}
@@ -14,8 +15,9 @@ use Rattle.message.specs.declared.kinds.Method.{Method}
 use Rattle.message.specs.declared.kinds.Method.TheVariants.{Request}
 use Rattle.message.specs.declared.kinds.Periods.{Periods}
 use Rattle.message.specs.Meaning.{order, rest, required, wanted, belongs, body_parts, body_method, further_of, parts_of, method_of}
-use Rattle.writer.specs.Putting.{Ranged}
-use Rattle.writer.specs.Writing.{AllRanged, room}
+use Rattle.writer.specs.Ranges.{Ranged}
+use Rattle.writer.specs.Writing.{AllRanged}
+use Rattle.writer.proofs.Fitting.{longest}
 
 -- parts that stand along an order, as many as there are
 abbrev Along : Method → List Property → List Part → Type 0
@@ -67,6 +69,11 @@ few m = omega (arith, by m.door m.body)
     by d (body.Cancel heard) = omega arith
     by d (body.Reply answer stamp) = omega arith
 
+-- the room that the lines of some parts may take
+abbrev pub room : List Part → ℕ
+room [] = 0
+room (p ∷ ps) = longest (property_of p) + room ps
+
 room_dates : (ds : List Period) → room (map rdate ds) ≡ 54 * length ds
 room_dates [] = refl
 room_dates (x ∷ ds) = omega (arith, room_dates ds)
@@ -81,12 +88,10 @@ roomy m = by m.door m.body
 
 -- a part at a place
 pub placed : (ps : List Part) (i : ℕ) (p : Part) → slice_get ps i ≡ Some p → (i < length ps) × (drop i ps ≡ p ∷ drop (i + 1) ps) × (take (i + 1) ps ≡ take i ps ++ (p ∷ []))
-placed [] i p e = let z : ◌≡◌ {A = ℕ} 0 1 = cc in absurd (omega arith)
-placed (q ∷ ps) zero p e = let is : q ≡ p = cc in (omega arith, cc, cc)
-placed (q ∷ ps) (suc i) p e =
-    let again = placed ps i p e in
-    let s : suc i + 1 ≡ suc (i + 1) = omega arith in
-    (omega (arith, again.0), rw s again.1, rw s (ap (λ (t : List Part). q ∷ t) again.2))
+placed ps i p e =
+    let within = slice_get_within ps i p e in
+    let here = get_or_from_slice_get ps i p p e in
+    (within, drop_more ps i p within ∙ ap (λ (x : Part). x ∷ drop (i + 1) ps) here, take_more ps i p within ∙ ap (λ (x : Part). take i ps ++ (x ∷ [])) here)
 
 pub ranged_at : (ps : List Part) (i : ℕ) (p : Part) → AllRanged ps → slice_get ps i ≡ Some p → Ranged p
 ranged_at [] i p a e = let z : ◌≡◌ {A = ℕ} 0 1 = cc in absurd (omega arith)
@@ -96,9 +101,3 @@ ranged_at (q ∷ ps) (suc i) p (_, a) e = ranged_at ps i p a e
 pub ranged_more : (ps : List Part) (p : Part) → AllRanged ps → Ranged p → AllRanged (ps ++ (p ∷ []))
 ranged_more [] p a r = (r, tt)
 ranged_more (q ∷ ps) p (s, a) r = (s, ranged_more ps p a r)
-
-pub ranged_all : (ps : List Part) (n : ℕ) → length ps ≤ n → AllRanged (take n ps) → AllRanged ps
-ranged_all ps n h a = let P : List Part → Type 0 = λ x. AllRanged x in subst P (take_all n ps h) a
-
-pub ranged_next : (ps : List Part) (i : ℕ) (p : Part) → slice_get ps i ≡ Some p → Ranged p → AllRanged (take i ps) → AllRanged (take (i + 1) ps)
-ranged_next ps i p e r a = let P : List Part → Type 0 = λ x. AllRanged x in subst P (sym (placed ps i p e).2) (ranged_more (take i ps) p a r)

@@ -7,7 +7,7 @@ use Rattle.property.specs.declared.kinds.Attendee.TheVariants.{Invited, Answerin
 use Rattle.property.specs.Values.{Part, uid, dtstamp, sequence, organizer, attendee, summary, dtstart, dtend, rdate, status, basis, Says, AttendeeText}
 use Rattle.message.specs.declared.kinds.Message.{Message}
 use Rattle.message.specs.Grammar.{State, calendar, version, product, method, event, inside, closing, done, skips, adds, ends, Step, Leads, Means}
-use Rattle.writer.specs.Putting.{Ranged, AttendeeRanged}
+use Rattle.writer.specs.Ranges.{Ranged, AttendeeRanged}
 use Rattle.writer.specs.Writing.{AllRanged, InRange}
 use Rattle.writer.proofs.Ordered.{ranged_more}
 

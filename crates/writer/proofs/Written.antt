@@ -1,26 +1,21 @@
--- Lines that are put one behind another, and lead on.
-use Rattle.std.proofs.Common.{◌≡◌, ℕ, ◌+◌, ◌≤◌, true, List, [], ◌∷◌, ◌++◌, length, get_or, take, drop, Some, codes, sym, refl, ap, ◌∙◌, subst, arith}
-use Rattle.std.specs.List.{flat_map, slice_get}
-use Rattle.std.proofs.lemmas.List.{append_assoc, append-nil, length-take-le, take_all}
+-- Lines one behind another, which lead on.
+use Rattle.std.proofs.Common.{◌≡◌, ℕ, ◌+◌, ◌≤◌, true, List, [], ◌∷◌, ◌++◌, length, get_or, take, drop, Some, codes, sym, refl, ap, ◌∙◌, subst, arith, length-append}
+use Rattle.std.specs.List.{flat_map, list_all, slice_get}
+use Rattle.std.proofs.lemmas.List.{append-nil, length-take-le, take_all}
+use Rattle.std.proofs.lemmas.List.Concat.{flat_map-append}
 use Rattle.lines.specs.Content.{Content, Fit, closed}
-use Rattle.property.specs.Values.{Part, property_of}
+use Rattle.property.specs.Values.{Part, property_of, name_text, Says}
 use Rattle.message.specs.declared.kinds.Message.{Message}
 use Rattle.message.specs.declared.kinds.Method.{Method}
 use Rattle.message.specs.declared.kinds.Method.TheVariants.{Request, Cancel, Reply}
 use Rattle.message.specs.Meaning.{wanted, required, belongs, parts_of, method_of}
 use Rattle.message.specs.Grammar.{State, calendar, version, product, method, event, inside, closing, done, adds, ends, Leads, AllFit, Means}
-use Rattle.writer.proofs.Ordered.{placed, ordered, enough}
-use Rattle.writer.specs.Putting.{Put, PutLine, line_of, longest}
-use Rattle.writer.specs.Writing.{Wrote, head, foot, frame, room}
-use Rattle.writer.proofs.Chains.{put_more, put_same}
-use Rattle.writer.proofs.Fitting.{fit_line, name_kind}
-use Rattle.writer.proofs.Passing.{passes, every}
+use Rattle.writer.proofs.Ordered.{placed, ordered, enough, room, roomy}
+use Rattle.writer.specs.Writing.{head, foot, frame}
+use Rattle.writer.proofs.Fitting.{line_of, longest, fit_line, name_kind, line_room}
+use Rattle.writer.proofs.Legible.{every}
 use Rattle.lines.specs.Bytes.{name_byte, printable, separates}
 use Rattle.message.specs.Names.{method_text}
-
-joined_append : (ls ks : List Content) → flat_map closed (ls ++ ks) ≡ flat_map closed ls ++ flat_map closed ks
-joined_append [] ks = refl
-joined_append (l ∷ ls) ks = ap (λ (t : List ℕ). closed l ++ t) (joined_append ls ks) ∙ sym (append_assoc (closed l) (flat_map closed ls) (flat_map closed ks))
 
 all_fit_append : (ls ks : List Content) → AllFit ls → AllFit ks → AllFit (ls ++ ks)
 all_fit_append [] ks a b = b
@@ -30,27 +25,32 @@ leads_append : (s t u : State) (ls ks : List Content) → Leads true s ls t → 
 leads_append s t u [] ks e b = let P : State → Type 0 = λ x. Leads true x ks u in subst P (sym e) b
 leads_append s t u (l ∷ ls) ks (v, st, a) b = (v, st, leads_append v t u ls ks a b)
 
-pub wrote_more : (a b c : List ℕ) (i j k : ℕ) (s t u : State) → Wrote a b i j s t → Wrote b c j k t u → Wrote a c i k s u
-wrote_more a b c i j k s t u x y = record {
-  lines = x.lines ++ y.lines;
-  fit = all_fit_append x.lines y.lines x.fit y.fit;
-  put = put_same (sym (joined_append x.lines y.lines)) (put_more x.put y.put);
-  leads = leads_append s t u x.lines y.lines x.leads y.leads;
+-- a text of lines, which lead from one state to another
+pub record Lines (s t : State) (text : List ℕ) : Type 0 where
+  pub lines : List Content
+  pub fit : AllFit lines
+  pub written : text ≡ flat_map closed lines
+  pub leads : Leads true s lines t
+
+-- lines, and the lines behind them
+pub lines_more : {s t u : State} {x y : List ℕ} → Lines s t x → Lines t u y → Lines s u (x ++ y)
+lines_more {s = s} {t = t} {u = u} a b = record {
+  lines = a.lines ++ b.lines;
+  fit = all_fit_append a.lines b.lines a.fit b.fit;
+  written = rw (a.written, b.written) (sym (flat_map-append closed a.lines b.lines));
+  leads = leads_append s t u a.lines b.lines a.leads b.leads;
 }
 
 -- the line of a part that is wanted
-pub wrote_part : (a b : List ℕ) (i j : ℕ) (m : Method) (parts : List Part) (p : Part) → PutLine a b p i j → wanted m (length parts) ≡ Some (property_of p) → belongs m p ≡ true → Wrote a b i j (inside m parts) (inside m (parts ++ (p ∷ [])))
-wrote_part a b i j m parts p put w own = record {
-  lines = line_of p put.text ∷ [];
-  fit = (fit_line p put.text put.said, tt);
-  put = put_same (sym (append-nil (closed (line_of p put.text)))) put.put;
-  leads = (inside m (parts ++ (p ∷ [])), adds p w (name_kind p) own put.said refl, refl);
+lines_part : (m : Method) (parts : List Part) (p : Part) (text : List ℕ) → Says p text → wanted m (length parts) ≡ Some (property_of p) → belongs m p ≡ true → Lines (inside m parts) (inside m (parts ++ (p ∷ []))) (closed (line_of p text))
+lines_part m parts p text said w own = record {
+  lines = line_of p text ∷ [];
+  fit = (fit_line p text said, tt);
+  written = sym (append-nil (closed (line_of p text)));
+  leads = (inside m (parts ++ (p ∷ [])), adds p w (name_kind p) own said refl, refl);
 }
 
-pub wrote_none : (a : List ℕ) (i : ℕ) (s : State) → Wrote a a i i s s
-wrote_none a i s = record { lines = []; fit = tt; put = record { size = omega arith; front = sym (append-nil (take i a)); rest = refl }; leads = refl }
-
-frame_fit : (name text : List ℕ) → 1 ≤ length name → passes name_byte name ≡ true → 1 ≤ length text → separates (get_or text 0 0) ≡ true → passes printable text ≡ true → length (name ++ text) ≤ 75 → Fit (frame name text)
+frame_fit : (name text : List ℕ) → 1 ≤ length name → list_all name_byte name ≡ true → 1 ≤ length text → separates (get_or text 0 0) ≡ true → list_all printable text ≡ true → length (name ++ text) ≤ 75 → Fit (frame name text)
 frame_fit name text n p t s q l = record { named = n; naming = every name_byte name p; some = t; parted = s; shown = every printable text q; short = l }
 
 method_fit : (m : Method) → Fit (frame (codes "METHOD") (method_text m))
@@ -64,50 +64,62 @@ head_fit m = (frame_fit (codes "BEGIN") (codes ":VCALENDAR") (omega arith) refl 
 foot_fit : AllFit foot
 foot_fit = (frame_fit (codes "END") (codes ":VEVENT") (omega arith) refl (omega arith) refl refl (omega arith), (frame_fit (codes "END") (codes ":VCALENDAR") (omega arith) refl (omega arith) refl refl (omega arith), tt))
 
-pub wrote_head : (a b : List ℕ) (j : ℕ) (m : Method) → Put a b (flat_map closed (head m)) 0 j → Wrote a b 0 j calendar (inside m [])
-wrote_head a b j m put = record {
+pub lines_head : (m : Method) → Lines calendar (inside m []) (flat_map closed (head m))
+lines_head m = record {
   lines = head m;
   fit = head_fit m;
-  put = put;
+  written = refl;
   leads = (version, ((refl, refl), refl), (product, ((refl, refl), refl), (method, (refl, refl, refl), (event m, (m, (refl, refl), refl), (inside m [], ((refl, refl), refl), refl)))));
 }
 
-pub wrote_foot : (a b : List ℕ) (i j : ℕ) (m : Method) (parts : List Part) → required m ≤ length parts → Put a b (flat_map closed foot) i j → Wrote a b i j (inside m parts) (done m parts)
-wrote_foot a b i j m parts r put = record {
+lines_foot : (m : Method) (parts : List Part) → required m ≤ length parts → Lines (inside m parts) (done m parts) (flat_map closed foot)
+lines_foot m parts r = record {
   lines = foot;
   fit = foot_fit;
-  put = put;
+  written = refl;
   leads = (closing m parts, ends r (refl, refl) refl, (done m parts, ((refl, refl), refl), refl));
 }
 
--- what was written from the start to the end is a text that means the message
-pub whole : (a b : List ℕ) (n : ℕ) (m : Message) → 1 ≤ n → n ≤ 768 → n ≤ length b → Wrote a b 0 n calendar (done (method_of m) (parts_of m)) → Means true (take n b) m
-whole a b n m some few within w =
-    let long : length (take n b) ≡ n = length-take-le n b within in
+-- the frame's start and the first properties of a message, with room for the others
+pub record Begun (msg : Message) (n : ℕ) (text : List ℕ) : Type 0 where
+  pub lines : Lines calendar (inside (method_of msg) (take n (parts_of msg))) text
+  pub short : length text + room (drop n (parts_of msg)) ≤ 619
+
+pub begun : (msg : Message) (m : Method) (text : List ℕ) → m ≡ method_of msg → text ≡ flat_map closed (head m) → length text ≤ 89 → Begun msg 0 text
+begun msg m text is e short = record {
+  lines = subst (λ (x : Method). Lines calendar (inside x []) text) is (subst (Lines calendar (inside m [])) (sym e) (lines_head m));
+  short = omega (arith, roomy msg);
+}
+
+-- one property more has room, and is put behind them
+module _ (msg : Message) (n : ℕ) (p : Part) (front said : List ℕ) (at : slice_get (parts_of msg) n ≡ Some p) (b : Begun msg n front) (says : Says p said) where
+  room_left : room (drop n (parts_of msg)) ≡ longest (property_of p) + room (drop (n + 1) (parts_of msg))
+  room_left = ap room (placed (parts_of msg) n p at).1
+
+  pub line_fits : (name : List ℕ) → name ≡ name_text (property_of p) → length front + (length name + length said + 2) ≤ 768
+  line_fits name e = omega (arith, room_left, b.short, line_room p said says, ap length e)
+
+  pub begun_more : (name now : List ℕ) → name ≡ name_text (property_of p) → now ≡ front ++ closed (record { name = name; text = said }) → Begun msg (n + 1) now
+  begun_more name now e is =
+      let here = placed (parts_of msg) n p at in
+      let o = ordered msg n p at in
+      let size : length (take n (parts_of msg)) ≡ n = length-take-le n (parts_of msg) (omega (arith, here.0)) in
+      let line = lines_part (method_of msg) (take n (parts_of msg)) p said says (ap (wanted (method_of msg)) size ∙ o.0) o.1 in
+      let P : List Part → Type 0 = λ ps. Lines calendar (inside (method_of msg) ps) (front ++ closed (line_of p said)) in
+      record {
+        lines = rw (is, e) (subst P (sym here.2) (lines_more b.lines line));
+        short = omega (arith, room_left, b.short, line_room p said says, ap length e, ap length is, length-append front (closed (record { name = name; text = said })), length-append (name ++ said) (13 ∷ (10 ∷ [])), length-append name said);
+      }
+
+-- all of them, and the frame's end
+pub whole : (msg : Message) (n : ℕ) (front now : List ℕ) → length (parts_of msg) ≤ n → Begun msg n front → now ≡ front ++ flat_map closed foot → Means true now msg
+whole msg n front now all b is =
+    let P : List Part → Type 0 = λ ps. Lines calendar (inside (method_of msg) ps) front in
+    let parts = subst P (take_all n (parts_of msg) all) b.lines in
+    let w = lines_more parts (lines_foot (method_of msg) (parts_of msg) (enough msg)) in
+    let long = length-append front (flat_map closed foot) in
     record {
-      sized = (omega arith, omega arith);
+      sized = (omega (arith, long, ap length is), omega (arith, long, ap length is, b.short));
       count = length w.lines;
-      led = record { lines = w.lines; fit = w.fit; size = refl; read = take_all (length (take n b)) (take n b) (omega arith) ∙ w.put.front; leads = w.leads };
+      led = record { lines = w.lines; fit = w.fit; size = refl; read = take_all _ _ (omega arith) ∙ is ∙ w.written; leads = w.leads };
     }
-
--- one property more of a message, and all of them
-pub wrote_next : (msg : Message) (a b c : List ℕ) (at i j n : ℕ) (p : Part) → slice_get (parts_of msg) n ≡ Some p → Wrote a b at i (inside (method_of msg) []) (inside (method_of msg) (take n (parts_of msg))) → PutLine b c p i j → Wrote a c at j (inside (method_of msg) []) (inside (method_of msg) (take (n + 1) (parts_of msg)))
-wrote_next msg a b c at i j n p e w put =
-    let here = placed (parts_of msg) n p e in
-    let o = ordered msg n p e in
-    let size : length (take n (parts_of msg)) ≡ n = length-take-le n (parts_of msg) (omega (arith, here.0)) in
-    let more = wrote_more a b c at i j _ _ _ w (wrote_part b c i j (method_of msg) (take n (parts_of msg)) p put (ap (wanted (method_of msg)) size ∙ o.0) o.1) in
-    let P : List Part → Type 0 = λ ps. Wrote a c at j (inside (method_of msg) []) (inside (method_of msg) ps) in
-    subst P (sym here.2) more
-
-pub wrote_all : (msg : Message) (a b : List ℕ) (at i n : ℕ) → length (parts_of msg) ≤ n → Wrote a b at i (inside (method_of msg) []) (inside (method_of msg) (take n (parts_of msg))) → Wrote a b at i (inside (method_of msg) []) (inside (method_of msg) (parts_of msg))
-wrote_all msg a b at i n h w = let P : List Part → Type 0 = λ ps. Wrote a b at i (inside (method_of msg) []) (inside (method_of msg) ps) in subst P (take_all n (parts_of msg) h) w
-
-pub room_next : (ps : List Part) (n : ℕ) (p : Part) → slice_get ps n ≡ Some p → room (drop n ps) ≡ longest (property_of p) + room (drop (n + 1) ps)
-room_next ps n p e = ap room (placed ps n p e).1
-
--- the frame's start, the properties and the frame's end
-pub written : (msg : Message) (a b c d : List ℕ) (i j n : ℕ) (m : Method) → m ≡ method_of msg → Put a b (flat_map closed (head m)) 0 i → Wrote b c i j (inside (method_of msg) []) (inside (method_of msg) (parts_of msg)) → Put c d (flat_map closed foot) j n → Wrote a d 0 n calendar (done (method_of msg) (parts_of msg))
-written msg a b c d i j n m is first middle last =
-    let P : Method → Type 0 = λ x. Put a b (flat_map closed (head x)) 0 i in
-    wrote_more a c d 0 j n _ _ _ (wrote_more a b c 0 i j _ _ _ (wrote_head a b i (method_of msg) (subst P is first)) middle) (wrote_foot c d j n (method_of msg) (parts_of msg) (enough msg) last)

@@ -1,20 +1,21 @@
 -- What writing a message answers.
-use Rattle.std.specs.Prelude.{◌≡◌, ℕ, ◌+◌, ◌<◌, ◌≤◌, true, false, List, [], ◌∷◌, length, take, drop, Some, None, Ok, Err, codes, Option, Result}
-use Rattle.std.specs.List.{flat_map}
+use Rattle.std.specs.Prelude.{◌≡◌, ℕ, ◌<◌, ◌≤◌, true, false, List, [], ◌∷◌, ◌++◌, length, take, drop, Some, None, Ok, Err, codes, Option, Result}
+use Rattle.arrayvec.specs.ArrayVec.{ArrayVec}
 use Rattle.fault.specs.declared.kinds.Cause.TheVariants.{Short, Range}
 use Rattle.fault.specs.declared.kinds.Fault.{Fault}
 use Rattle.fault.specs.declared.kinds.Layer.TheVariants.{Framing}
 use Rattle.fault.specs.Numbers.{told}
-use Rattle.lines.specs.Content.{Content, closed}
+use Rattle.lines.specs.Content.{Content}
 use Rattle.fault.specs.declared.kinds.Property.{Property}
 use Rattle.property.specs.declared.kinds.Value.{Value}
-use Rattle.property.specs.Values.{Part, property_of, part_of, Says}
+use Rattle.property.specs.declared.kinds.Heard.{Heard}
+use Rattle.property.specs.Values.{Part, property_of, part_of, Says, ReplyText, shown_text}
 use Rattle.message.specs.declared.kinds.Message.{Message}
 use Rattle.message.specs.declared.kinds.Method.{Method}
 use Rattle.message.specs.Names.{method_text}
 use Rattle.message.specs.Meaning.{parts_of}
-use Rattle.message.specs.Grammar.{State, AllFit, Leads, Means, Refused, Same}
-use Rattle.writer.specs.Putting.{Put, Ranged, longest}
+use Rattle.message.specs.Grammar.{Means, Refused, Same}
+use Rattle.writer.specs.Ranges.{Ranged}
 
 -- every part is in its range
 abbrev pub AllRanged : List Part → Type 0
@@ -23,11 +24,6 @@ AllRanged (p ∷ ps) = Ranged p × AllRanged ps
 
 abbrev pub InRange : Message → Type 0
 InRange m = AllRanged (parts_of m)
-
--- the room that the lines of some parts may take
-abbrev pub room : List Part → ℕ
-room [] = 0
-room (p ∷ ps) = longest (property_of p) + room ps
 
 -- the lines before and behind an event
 abbrev pub frame : List ℕ → List ℕ → Content
@@ -44,12 +40,19 @@ head m =
 abbrev pub foot : List Content
 foot = frame (codes "END") (codes ":VEVENT") ∷ (frame (codes "END") (codes ":VCALENDAR") ∷ [])
 
--- lines are put, which lead from one state to another
-pub record Wrote (old new : List ℕ) (from to : ℕ) (s t : State) : Type 0 where
-  pub lines : List Content
-  pub fit : AllFit lines
-  pub put : Put old new (flat_map closed lines) from to
-  pub leads : Leads true s lines t
+-- the answer that the site shows, and the stamp of the REPLY
+abbrev pub HeardText : Heard → List ℕ → Type 0
+HeardText h text = (reply : List ℕ) × ReplyText h.at reply × (text ≡ shown_text h.shown ++ reply)
+
+-- what writing the text of a part answers: a text of it, or none where it is out of its range
+abbrev pub TextOf : Part → Option (ArrayVec ℕ) → Type 0
+TextOf p None = Ranged p → ⊥
+TextOf p (Some text) = Says p text.items
+
+-- what writing the text of a message answers: its house text, or none where a part is out of its range
+abbrev pub HouseText : Message → Option (ArrayVec ℕ) → Type 0
+HouseText m None = InRange m → ⊥
+HouseText m (Some text) = Means true text.items m
 
 -- a message that is written: its house text stands at the buffer's front, and the buffer's rest is kept
 pub record Writ (m : Message) (old new : List ℕ) (n : ℕ) : Type 0 where
@@ -95,6 +98,6 @@ RereadsValue p None = Ranged p → ⊥
 RereadsValue p (Some v) = Ranged p × (part_of v ≡ p)
 
 -- what writing back the text of a property that was read answers: the same text
-abbrev pub RewritesValue : Property → List ℕ → Option (List ℕ × ℕ) → Type 0
+abbrev pub RewritesValue : Property → List ℕ → Option (ArrayVec ℕ) → Type 0
 RewritesValue q text None = (p : Part) → property_of p ≡ q → Says p text → ⊥
-RewritesValue q text (Some (bytes, n)) = take n bytes ≡ text
+RewritesValue q text (Some again) = again.items ≡ text

@@ -1,75 +1,75 @@
 // ATTENDEE: a door's answer and its address.
-ghost use Rattle.std.specs.Prelude.{◌≡◌, ◌+◌, ◌≤◌, length};
+ghost use Rattle.std.specs.Prelude.{◌≡◌, ◌≤◌, length};
 ghost use Rattle.stamp.specs.Stamps.{Real};
 ghost use Rattle.property.specs.Values.{AttendeeText, Partstat, door_of, answer_text, shown_text};
-ghost use Rattle.writer.specs.Putting.{Put, Puts, HeardText, AttendeeRanged};
+ghost use Rattle.writer.specs.Ranges.{AttendeeRanged};
+ghost use Rattle.writer.specs.Writing.{HeardText};
 
-use crate::numbers::put_door;
-use crate::putting::put;
-use crate::stamps::put_stamp;
+use crate::numbers::door_text;
+use crate::putting::{Text, joined};
 use property::{Answer, Attendee, Door, Heard};
 
-fn put_answer(buffer: &mut [u8], at: usize, answer: Answer) -> usize
-    requires { at + 12 ≤ length buffer.old }
-    ensures { Put buffer.old buffer.new (answer_text answer) at result }
+// An answer's text, by a match to byte strings: Display writes characters, and a text is bytes.
+fn answer_text(answer: Answer) -> &'static [u8]
+    ensures value { result.now ≡ answer_text answer }
+    ensures size { length result.now ≤ 12 }
 {
     match answer {
-        Answer::Accepted => put(buffer, at, b"ACCEPTED"),
-        Answer::Declined => put(buffer, at, b"DECLINED"),
-        Answer::Tentative => put(buffer, at, b"TENTATIVE"),
+        Answer::Accepted => b"ACCEPTED",
+        Answer::Declined => b"DECLINED",
+        Answer::Tentative => b"TENTATIVE",
     }
 }
 
-fn put_shown(buffer: &mut [u8], at: usize, shown: Option<Answer>) -> usize
-    requires { at + 12 ≤ length buffer.old }
-    ensures { Put buffer.old buffer.new (shown_text shown) at result }
+// The text of the answer that the site shows.
+fn shown_text(shown: Option<Answer>) -> &'static [u8]
+    ensures value { result.now ≡ shown_text shown }
+    ensures size { length result.now ≤ 12 }
 {
     match shown {
-        None => put(buffer, at, b"NEEDS-ACTION"),
-        Some(answer) => put_answer(buffer, at, answer),
+        None => b"NEEDS-ACTION",
+        Some(answer) => answer_text(answer),
     }
 }
 
-// Puts what the site holds of a door's answer.
-fn put_heard(buffer: &mut [u8], at: usize, heard: Heard) -> usize
-    requires { (Real heard.at.seconds) × (at + 37 ≤ length buffer.old) }
-    ensures { Puts (HeardText heard) buffer.old buffer.new at result }
+// What the site holds of a door's answer.
+fn heard_text(heard: Heard) -> Text
+    requires { Real heard.at.seconds }
+    ensures { HeardText heard result.items }
 {
-    let reply = put_shown(buffer, at, heard.shown);
-    let stamp = put(buffer, reply, b";X-REPLY=");
-    put_stamp(buffer, stamp, heard.at)
+    let stamp = heard.at.text();
+    joined(&[shown_text(heard.shown), b";X-REPLY=", &stamp])
 }
 
-// Puts what stands behind `PARTSTAT=`.
-fn put_partstat(buffer: &mut [u8], at: usize, attendee: Attendee) -> usize
-    requires { (AttendeeRanged attendee) × (at + 37 ≤ length buffer.old) }
-    ensures { Puts (Partstat attendee) buffer.old buffer.new at result }
+// What stands behind `PARTSTAT=`.
+fn partstat_text(attendee: Attendee) -> Text
+    requires { AttendeeRanged attendee }
+    ensures { Partstat attendee result.items }
 {
     match attendee {
         Attendee::Invited { heard, .. } => match heard {
-            None => put(buffer, at, b"NEEDS-ACTION"),
-            Some(heard) => put_heard(buffer, at, heard),
+            None => joined(&[b"NEEDS-ACTION"]),
+            Some(heard) => heard_text(heard),
         },
-        Attendee::Answering { answer, .. } => put_answer(buffer, at, answer),
+        Attendee::Answering { answer, .. } => joined(&[answer_text(answer)]),
     }
 }
 
+// The door that an attendee is.
 fn door_of(attendee: Attendee) -> Door
     ensures { result ≡ door_of attendee }
 {
     match attendee {
-        Attendee::Invited { door, .. } => door,
-        Attendee::Answering { door, .. } => door,
+        Attendee::Invited { door, .. } | Attendee::Answering { door, .. } => door,
     }
 }
 
-// Puts the text of ATTENDEE.
-pub(crate) fn put_attendee(buffer: &mut [u8], at: usize, attendee: Attendee) -> usize
-    requires { (AttendeeRanged attendee) × (at + 63 ≤ length buffer.old) }
-    ensures { Puts (AttendeeText attendee) buffer.old buffer.new at result }
+// The text of ATTENDEE.
+pub(crate) fn attendee_text(attendee: Attendee) -> Text
+    requires { AttendeeRanged attendee }
+    ensures { AttendeeText attendee result.items }
 {
-    let door = door_of(attendee);
-    let status = put(buffer, at, b";PARTSTAT=");
-    let address = put_partstat(buffer, status, attendee);
-    put_door(buffer, address, door)
+    let status = partstat_text(attendee);
+    let door = door_text(door_of(attendee));
+    joined(&[b";PARTSTAT=", &status, &door])
 }

@@ -2,7 +2,6 @@
 #![tactic(auto)]
 
 mod attendees;
-mod digits;
 mod numbers;
 mod putting;
 mod ranges;

@@ -1,41 +1,49 @@
 // The numbered things: meetings, doors and SEQUENCE.
-ghost use Rattle.std.specs.Prelude.{◌+◌, ◌≤◌, length, codes};
+ghost use Rattle.std.specs.Prelude.{◌≡◌, ◌≤◌, codes};
+ghost use Rattle.property.specs.Bytes.{four};
 ghost use Rattle.property.specs.Values.{After, MeetingText, DoorText, SequenceText};
-ghost use Rattle.writer.specs.Putting.{Puts, DoorRanged};
+ghost use Rattle.writer.specs.Ranges.{DoorRanged};
 
-use crate::digits::{four_digits, leading_zeros};
-use crate::putting::put;
+use crate::putting::{Text, joined};
+use itoa::Buffer;
 use property::{Door, Meeting};
 use rank::Sequence;
 
-// Puts the text of UID.
-pub(crate) fn put_meeting(buffer: &mut [u8], at: usize, meeting: Meeting) -> usize
-    requires { (1 ≤ meeting.number) × ((meeting.number ≤ 32) × (at + 12 ≤ length buffer.old)) }
-    ensures { Puts (After (codes ":") (MeetingText meeting)) buffer.old buffer.new at result }
+// Four digits with zeros in front. By hand: a formatter's `{:04}` hands out a result, as if there might be no room.
+fn four_digits(number: u16) -> [u8; 4]
+    requires { number ≤ 9999 }
+    ensures { result ≡ four number }
+{
+    [
+        b'0' + (number / 1000) as u8,
+        b'0' + (number / 100 % 10) as u8,
+        b'0' + (number / 10 % 10) as u8,
+        b'0' + (number % 10) as u8,
+    ]
+}
+
+// The text of UID.
+pub(crate) fn meeting_text(meeting: Meeting) -> Text
+    requires { (1 ≤ meeting.number) × (meeting.number ≤ 32) }
+    ensures { After (codes ":") (MeetingText meeting) result.items }
 {
     let digits = four_digits(u16::from(meeting.number));
-    let number = put(buffer, at, b":m");
-    let tail = put(buffer, number, &digits);
-    put(buffer, tail, b"@doors")
+    joined(&[b":m", &digits, b"@doors"])
 }
 
-// Puts a door's address.
-pub(crate) fn put_door(buffer: &mut [u8], at: usize, door: Door) -> usize
-    requires { (DoorRanged door) × (at + 16 ≤ length buffer.old) }
-    ensures { Puts (DoorText door) buffer.old buffer.new at result }
+// A door's address.
+pub(crate) fn door_text(door: Door) -> Text
+    requires { DoorRanged door }
+    ensures { DoorText door result.items }
 {
-    let number = put(buffer, at, b":mailto:d");
-    let tail = put(buffer, number, &[b'0' + door.number]);
-    put(buffer, tail, b"@doors")
+    joined(&[b":mailto:d", &[b'0' + door.number], b"@doors"])
 }
 
-// Puts the text of SEQUENCE.
-pub(crate) fn put_sequence(buffer: &mut [u8], at: usize, sequence: Sequence) -> usize
-    requires { (sequence.number ≤ 9999) × (at + 5 ≤ length buffer.old) }
-    ensures { Puts (After (codes ":") (SequenceText sequence)) buffer.old buffer.new at result }
+// The text of SEQUENCE.
+pub(crate) fn sequence_text(sequence: Sequence) -> Text
+    requires { sequence.number ≤ 9999 }
+    ensures { After (codes ":") (SequenceText sequence) result.items }
 {
-    let digits = four_digits(sequence.number);
-    let zeros = leading_zeros(sequence.number);
-    let number = put(buffer, at, b":");
-    put(buffer, number, &digits[zeros..])
+    let mut digits = Buffer::new();
+    joined(&[b":", digits.format(sequence.number).as_bytes()])
 }

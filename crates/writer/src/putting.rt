@@ -1,24 +1,39 @@
-// Bytes put into a buffer, one text behind another.
-ghost use Rattle.std.specs.Prelude.{◌+◌, ◌≤◌, length};
-ghost use Rattle.lines.specs.Content.{closed};
-ghost use Rattle.writer.specs.Putting.{Put};
+// Texts being written: each has room for a fixed number of bytes, and no memory is taken.
+ghost use Rattle.std.specs.Prelude.{◌≡◌, ◌+◌, ◌≤◌, ◌++◌, length};
+ghost use Rattle.std.specs.List.{flat_map};
 
-// Puts bytes at a place, and tells the place behind them.
-pub(crate) fn put(buffer: &mut [u8], at: usize, bytes: &[u8]) -> usize
-    requires { at + length bytes.now ≤ length buffer.old }
-    ensures { Put buffer.old buffer.new bytes.now at result }
+use arrayvec::ArrayVec;
+
+// No property has a longer text, from its separator on.
+pub(crate) const WIDEST: usize = 64;
+
+// The text of a property, from its separator on.
+pub(crate) type Text = ArrayVec<u8, WIDEST>;
+
+// Puts bytes behind what stands in a text.
+fn put<const N: usize>(text: &mut ArrayVec<u8, N>, bytes: &[u8])
+    requires { length text.old.items + length bytes.now ≤ N }
+    ensures { text.new.items ≡ text.old.items ++ bytes.now }
 {
-    let end = at + bytes.len();
-    buffer[at..end].copy_from_slice(bytes);
-    end
+    let _fits = text.try_extend_from_slice(bytes);
 }
 
-// Puts a line: its name, its text from the separator on, and CR LF.
-pub(crate) fn put_line(buffer: &mut [u8], at: usize, name: &[u8], text: &[u8]) -> usize
-    requires { at + (length name.now + length text.now + 2) ≤ length buffer.old }
-    ensures { Put buffer.old buffer.new (closed (record { name = name.entry.now; text = text.now })) at result }
+// Puts pieces behind what stands in a text, one behind another.
+pub(crate) fn put_all<const N: usize>(text: &mut ArrayVec<u8, N>, pieces: &[&[u8]])
+    requires { length text.old.items + length (flat_map (λ piece. piece.now) pieces.now) ≤ N }
+    ensures { text.new.items ≡ text.old.items ++ flat_map (λ piece. piece.now) pieces.now }
 {
-    let colon = put(buffer, at, name);
-    let end = put(buffer, colon, text);
-    put(buffer, end, b"\r\n")
+    for piece in pieces {
+        put(text, piece);
+    }
+}
+
+// The text that pieces make, one behind another.
+pub(crate) fn joined<const N: usize>(pieces: &[&[u8]]) -> ArrayVec<u8, N>
+    requires { length (flat_map (λ piece. piece.now) pieces.now) ≤ N }
+    ensures { result.items ≡ flat_map (λ piece. piece.now) pieces.now }
+{
+    let mut text = ArrayVec::new();
+    put_all(&mut text, pieces);
+    text
 }

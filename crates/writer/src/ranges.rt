@@ -1,24 +1,18 @@
 // Values that are in their ranges.
 ghost use Rattle.std.specs.Prelude.{Decides};
 ghost use Rattle.property.specs.Values.{part_of};
-ghost use Rattle.writer.specs.Putting.{Ranged, AttendeeRanged, HeardRanged};
+ghost use Rattle.writer.specs.Ranges.{Ranged, AttendeeRanged};
 
-use property::{Attendee, Heard, Value};
+use property::{Attendee, Value};
 
-fn is_heard_ranged(heard: Option<Heard>) -> bool
-    ensures { Decides result (HeardRanged heard) }
-{
-    match heard {
-        None => true,
-        Some(heard) => heard.at.is_real(),
-    }
-}
-
+// Whether an attendee's door is one, and what was heard of it has a stamp that is one.
 fn is_attendee_ranged(attendee: Attendee) -> bool
     ensures { Decides result (AttendeeRanged attendee) }
 {
     match attendee {
-        Attendee::Invited { door, heard } => door.is_real() && is_heard_ranged(heard),
+        Attendee::Invited { door, heard } => {
+            door.is_real() && heard.is_none_or(|heard| heard.at.is_real())
+        },
         Attendee::Answering { door, .. } => door.is_real(),
     }
 }
@@ -29,15 +23,12 @@ pub(crate) fn is_ranged(value: &Value) -> bool
 {
     match *value {
         Value::Uid(meeting) => meeting.is_real(),
-        Value::Dtstamp(stamp) => stamp.is_real(),
+        Value::Dtstamp(stamp) | Value::Dtstart(stamp) | Value::Dtend(stamp) | Value::Basis(stamp) =>
+            stamp.is_real(),
         Value::Sequence(sequence) => sequence.number <= 9999,
-        Value::Organizer => true,
+        Value::Organizer | Value::Status => true,
         Value::Attendee(attendee) => is_attendee_ranged(attendee),
         Value::Summary(title) => !title.is_empty(),
-        Value::Dtstart(stamp) => stamp.is_real(),
-        Value::Dtend(stamp) => stamp.is_real(),
         Value::Rdate(period) => period.start.is_real() && period.end.is_real(),
-        Value::Status => true,
-        Value::Basis(stamp) => stamp.is_real(),
     }
 }

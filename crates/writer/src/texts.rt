@@ -1,16 +1,13 @@
 // Whole texts: the frame, and the properties of a message in their order.
-ghost use Rattle.std.specs.Prelude.{◌≡◌, ◌+◌, ◌≤◌, [], length, Decides};
+ghost use Rattle.std.specs.Prelude.{◌≡◌, ◌+◌, ◌≤◌, ◌++◌, [], length};
 ghost use Rattle.std.specs.List.{flat_map};
 ghost use Rattle.lines.specs.Content.{closed};
-ghost use Rattle.message.specs.Grammar.{inside};
-ghost use Rattle.message.specs.Meaning.{parts_of, method_of};
 ghost use Rattle.message.specs.Names.{method_text};
-ghost use Rattle.writer.specs.Putting.{Put};
-ghost use Rattle.writer.specs.Writing.{InRange, Wrote, room, head, foot, Writes};
+ghost use Rattle.writer.specs.Writing.{head, foot, HouseText, Writes};
 
-use crate::putting::put_line;
-use crate::ranges::is_ranged;
-use crate::values::put_value;
+use crate::putting::{joined, put_all};
+use crate::values::{name_text, value_text};
+use arrayvec::ArrayVec;
 use fault::{Cause, Fault, Layer};
 use message::{Message, Method};
 
@@ -20,6 +17,9 @@ const LONGEST: usize = 768;
 // The most properties that a message has.
 const MOST: usize = 13;
 
+// A text with room for the longest.
+type House = ArrayVec<u8, LONGEST>;
+
 // Writes the one house text of a message to the buffer's front, keeps the buffer's rest, and tells the length.
 // Refused: a buffer under 768 bytes, then a message with a value out of its range.
 pub fn write(message: &Message, buffer: &mut [u8]) -> Result<usize, Fault>
@@ -28,28 +28,26 @@ pub fn write(message: &Message, buffer: &mut [u8]) -> Result<usize, Fault>
     if buffer.len() < LONGEST {
         return Err(Fault::new(Layer::Framing, Cause::Short));
     }
-    if !in_range(message) {
-        return Err(Fault::new(Layer::Framing, Cause::Range));
-    }
-    let event = put_head(buffer, message.method());
-    let end = put_values(buffer, event, message);
-    Ok(put_foot(buffer, end))
+    let text = house_text(message).ok_or(Fault::new(Layer::Framing, Cause::Range))?;
+    let length = text.len();
+    buffer[..length].copy_from_slice(&text);
+    Ok(length)
 }
 
-fn in_range(message: &Message) -> bool
-    ensures { Decides result (InRange message.now) }
+// The one house text of a message, or none where a value is out of its range.
+fn house_text(message: &Message) -> Option<House>
+    ensures { HouseText message.now result }
 {
-    for place in 0..MOST {
-        let Some(value) = message.value(place) else {
-            return true;
-        };
-        if !is_ranged(&value) {
-            return false;
-        }
+    let mut text = head_text(message.method());
+    for value in (0..MOST).map_while(|place| message.value(place)) {
+        let said = value_text(&value)?;
+        put_line(&mut text, name_text(value.property()), &said);
     }
-    true
+    put_foot(&mut text);
+    Some(text)
 }
 
+// A method's text, by a match to byte strings: Display writes characters, and a text is bytes.
 fn method_text(method: Method) -> &'static [u8]
     ensures value { result.now ≡ method_text method }
     ensures size { length result.now ≤ 8 }
@@ -62,40 +60,33 @@ fn method_text(method: Method) -> &'static [u8]
 }
 
 // The lines before the properties.
-fn put_head(buffer: &mut [u8], method: Method) -> usize
-    requires { 89 ≤ length buffer.old }
-    ensures put { Put buffer.old buffer.new (flat_map closed (head method)) 0 result }
-    ensures size { result ≤ 89 }
+fn head_text(method: Method) -> House
+    ensures value { result.items ≡ flat_map closed (head method) }
+    ensures size { length result.items ≤ 89 }
 {
-    let version = put_line(buffer, 0, b"BEGIN", b":VCALENDAR");
-    let product = put_line(buffer, version, b"VERSION", b":2.0");
-    let line = put_line(buffer, product, b"PRODID", b":-//DOORS//ITIP 1//EN");
-    let event = put_line(buffer, line, b"METHOD", method_text(method));
-    put_line(buffer, event, b"BEGIN", b":VEVENT")
+    joined(&[
+        b"BEGIN:VCALENDAR\r\n",
+        b"VERSION:2.0\r\n",
+        b"PRODID:-//DOORS//ITIP 1//EN\r\n",
+        b"METHOD",
+        method_text(method),
+        b"\r\n",
+        b"BEGIN:VEVENT\r\n",
+    ])
 }
 
-// The lines behind them.
-fn put_foot(buffer: &mut [u8], at: usize) -> usize
-    requires { at + 27 ≤ length buffer.old }
-    ensures put { Put buffer.old buffer.new (flat_map closed foot) at result }
-    ensures size { result ≡ at + 27 }
+// Puts the lines behind them.
+fn put_foot(text: &mut House)
+    requires { length text.old.items + 27 ≤ 768 }
+    ensures { text.new.items ≡ text.old.items ++ flat_map closed foot }
 {
-    let last = put_line(buffer, at, b"END", b":VEVENT");
-    put_line(buffer, last, b"END", b":VCALENDAR")
+    put_all(text, &[b"END:VEVENT\r\n", b"END:VCALENDAR\r\n"]);
 }
 
-// The properties of a message, in their order.
-fn put_values(buffer: &mut [u8], at: usize, message: &Message) -> usize
-    requires { (InRange message.now) × (at + room (parts_of message.now) ≤ length buffer.old) }
-    ensures wrote { Wrote buffer.old buffer.new at result (inside (method_of message.now) []) (inside (method_of message.now) (parts_of message.now)) }
-    ensures size { result ≤ at + room (parts_of message.now) }
+// Puts a line: its name, its text from the separator on, and CR LF.
+fn put_line(text: &mut House, name: &[u8], said: &[u8])
+    requires { length text.old.items + (length name.now + length said.now + 2) ≤ 768 }
+    ensures { text.new.items ≡ text.old.items ++ closed (record { name = name.entry.now; text = said.now }) }
 {
-    let mut end = at;
-    for place in 0..MOST {
-        let Some(value) = message.value(place) else {
-            return end;
-        };
-        end = put_value(buffer, end, &value);
-    }
-    end
+    put_all(text, &[name, said, b"\r\n"]);
 }

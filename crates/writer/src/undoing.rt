@@ -2,22 +2,20 @@
 ghost use Rattle.property.specs.Values.{part_of};
 ghost use Rattle.writer.specs.Writing.{Rereads, Rewrites, RereadsValue, RewritesValue};
 
-use crate::ranges::is_ranged;
+use crate::putting::WIDEST;
 use crate::texts::write;
-use crate::values::put_text;
+use crate::values::value_text;
+use arrayvec::ArrayVec;
 use fault::{Fault, Property};
 use message::Message;
 use property::Value;
-
-// No property has a longer text, from its separator on.
-const WIDEST: usize = 64;
 
 // Writes a message and reads it back: what is written reads as the message that it came from.
 pub fn reread(message: &Message, buffer: &mut [u8]) -> Result<Message, Fault>
     ensures { Rereads message.now buffer.old result }
 {
     let length = write(message, buffer)?;
-    Message::read(&buffer[0..length])
+    Message::read(&buffer[..length])
 }
 
 // Reads a text and writes it back: a house text comes out as it was, and any other text as the house text of the same message.
@@ -32,20 +30,14 @@ pub fn rewrite(text: &[u8], buffer: &mut [u8]) -> Result<usize, Fault>
 pub fn reread_value(value: &Value) -> Option<Value>
     ensures { RereadsValue (part_of value.now) result }
 {
-    if !is_ranged(value) {
-        return None;
-    }
-    let mut text = [0; WIDEST];
-    let end = put_text(&mut text, 0, value);
-    Value::read(value.property(), &text[0..end])
+    let text = value_text(value)?;
+    Value::read(value.property(), &text)
 }
 
-// Reads the text of a property and writes it back: the same bytes, and their number, or none where the property never has this text.
-pub fn rewrite_value(property: Property, text: &[u8]) -> Option<([u8; WIDEST], usize)>
+// Reads the text of a property and writes it back: the same bytes, or none where the property never has this text.
+pub fn rewrite_value(property: Property, text: &[u8]) -> Option<ArrayVec<u8, WIDEST>>
     ensures { RewritesValue property text.now result }
 {
     let value = Value::read(property, text)?;
-    let mut again = [0; WIDEST];
-    let end = put_text(&mut again, 0, &value);
-    Some((again, end))
+    value_text(&value)
 }

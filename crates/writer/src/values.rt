@@ -1,68 +1,65 @@
 // The lines of values: a property's name, and the text of its value.
-ghost use Rattle.std.specs.Prelude.{◌≡◌, ◌+◌, ◌≤◌, length};
-ghost use Rattle.property.specs.Values.{part_of, property_of, name_text, title_text, TitleText, Says, summary};
-ghost use Rattle.writer.specs.Putting.{Puts, PutLine, Ranged, longest, widest};
+ghost use Rattle.std.specs.Prelude.{◌≡◌};
+ghost use Rattle.property.specs.Values.{part_of, name_text, title_text, TitleText, Says, summary};
+ghost use Rattle.writer.specs.Ranges.{Ranged};
+ghost use Rattle.writer.specs.Writing.{TextOf};
 
-use crate::attendees::put_attendee;
-use crate::numbers::{put_meeting, put_sequence};
-use crate::putting::put;
-use crate::stamps::{put_moment, put_period};
+use crate::attendees::attendee_text;
+use crate::numbers::{meeting_text, sequence_text};
+use crate::putting::{Text, joined};
+use crate::ranges::is_ranged;
+use crate::stamps::{moment_text, period_text};
+use fault::Property;
 use property::{Title, Value};
 
-// The name of a value's property.
-fn name_of(value: &Value) -> &'static [u8]
-    ensures { result.now ≡ name_text (property_of (part_of value.now)) }
+// A property's name, by a match to byte strings: Display writes characters, and a text is bytes.
+pub(crate) fn name_text(property: Property) -> &'static [u8]
+    ensures { result.now ≡ name_text property }
 {
-    match *value {
-        Value::Uid(_) => b"UID",
-        Value::Dtstamp(_) => b"DTSTAMP",
-        Value::Sequence(_) => b"SEQUENCE",
-        Value::Organizer => b"ORGANIZER",
-        Value::Attendee(_) => b"ATTENDEE",
-        Value::Summary(_) => b"SUMMARY",
-        Value::Dtstart(_) => b"DTSTART",
-        Value::Dtend(_) => b"DTEND",
-        Value::Rdate(_) => b"RDATE",
-        Value::Status => b"STATUS",
-        Value::Basis(_) => b"X-BASIS",
+    match property {
+        Property::Uid => b"UID",
+        Property::Dtstamp => b"DTSTAMP",
+        Property::Sequence => b"SEQUENCE",
+        Property::Organizer => b"ORGANIZER",
+        Property::Attendee => b"ATTENDEE",
+        Property::Summary => b"SUMMARY",
+        Property::Dtstart => b"DTSTART",
+        Property::Dtend => b"DTEND",
+        Property::Rdate => b"RDATE",
+        Property::Status => b"STATUS",
+        Property::Basis => b"X-BASIS",
     }
 }
 
-// Puts the text of SUMMARY.
-fn put_title(buffer: &mut [u8], at: usize, title: &Title) -> usize
-    requires { (TitleText (title_text title.now)) × (at + 41 ≤ length buffer.old) }
-    ensures { Puts (Says (summary (title_text title.now))) buffer.old buffer.new at result }
+// The text of a value, from its separator on, or none where the value is out of its range.
+pub(crate) fn value_text(value: &Value) -> Option<Text>
+    ensures { TextOf (part_of value.now) result }
 {
-    let start = put(buffer, at, b":");
-    put(buffer, start, title.as_bytes())
+    is_ranged(value).then(|| ranged_text(value))
 }
 
-// Puts the text of a value, from its separator on.
-pub(crate) fn put_text(buffer: &mut [u8], at: usize, value: &Value) -> usize
-    requires { (Ranged (part_of value.now)) × (at + widest (property_of (part_of value.now)) ≤ length buffer.old) }
-    ensures { Puts (Says (part_of value.now)) buffer.old buffer.new at result }
+// The text of a value that is in its range.
+fn ranged_text(value: &Value) -> Text
+    requires { Ranged (part_of value.now) }
+    ensures { Says (part_of value.now) result.items }
 {
     match *value {
-        Value::Uid(meeting) => put_meeting(buffer, at, meeting),
-        Value::Dtstamp(stamp) => put_moment(buffer, at, stamp),
-        Value::Sequence(sequence) => put_sequence(buffer, at, sequence),
-        Value::Organizer => put(buffer, at, b":mailto:site@doors"),
-        Value::Attendee(attendee) => put_attendee(buffer, at, attendee),
-        Value::Summary(title) => put_title(buffer, at, &title),
-        Value::Dtstart(stamp) => put_moment(buffer, at, stamp),
-        Value::Dtend(stamp) => put_moment(buffer, at, stamp),
-        Value::Rdate(period) => put_period(buffer, at, period),
-        Value::Status => put(buffer, at, b":CANCELLED"),
-        Value::Basis(stamp) => put_moment(buffer, at, stamp),
+        Value::Uid(meeting) => meeting_text(meeting),
+        Value::Dtstamp(stamp) | Value::Dtstart(stamp) | Value::Dtend(stamp) | Value::Basis(stamp) =>
+            moment_text(stamp),
+        Value::Sequence(sequence) => sequence_text(sequence),
+        Value::Organizer => joined(&[b":mailto:site@doors"]),
+        Value::Attendee(attendee) => attendee_text(attendee),
+        Value::Summary(title) => summary_text(&title),
+        Value::Rdate(period) => period_text(period),
+        Value::Status => joined(&[b":CANCELLED"]),
     }
 }
 
-// Puts the line of a value.
-pub(crate) fn put_value(buffer: &mut [u8], at: usize, value: &Value) -> usize
-    requires { (Ranged (part_of value.now)) × (at + longest (property_of (part_of value.now)) ≤ length buffer.old) }
-    ensures { PutLine buffer.old buffer.new (part_of value.now) at result }
+// The text of SUMMARY.
+fn summary_text(title: &Title) -> Text
+    requires { TitleText (title_text title.now) }
+    ensures { Says (summary (title_text title.now)) result.items }
 {
-    let colon = put(buffer, at, name_of(value));
-    let end = put_text(buffer, colon, value);
-    put(buffer, end, b"\r\n")
+    joined(&[b":", title.as_bytes()])
 }

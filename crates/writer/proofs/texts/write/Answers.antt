@@ -1,21 +1,22 @@
-use Rattle.std.proofs.Common.{refl, arith}
-use Rattle.writer.proofs.Ordered.{roomy}
-use Rattle.writer.proofs.Written.{written, whole}
+use Rattle.std.proofs.Common.{◌≡◌, ◌++◌, ◌≤◌, ℕ, true, List, length, drop, sym, subst, arith}
+use Rattle.std.proofs.lemmas.List.{take_at, drop_at}
+use Rattle.message.specs.declared.kinds.Message.{Message}
+use Rattle.message.specs.Grammar.{Means}
+use Rattle.writer.specs.Writing.{HouseText, Writ}
+use Rattle.writer.proofs.Ranging.{meant_ranged}
 use Rattle.writer.proofs.texts.write.Goals as goal
 
-pub put_values-end-requires : goal.put_values-end-requires
-put_values-end-requires c = (c.if-not-in_range.ensures.0 refl, omega (arith, roomy c.args.message.now, c.put_head-event.ensures.size, c.put_head-event.auto.buffer))
-
-pub put_foot-requires : goal.put_foot-requires
-put_foot-requires c = omega (arith, roomy c.args.message.now, c.put_head-event.ensures.size, c.put_values-end.ensures.size, c.put_head-event.auto.buffer, c.put_values-end.auto.buffer)
+-- a text in front of a buffer's rest
+writ : (m : Message) (old text : List ℕ) (n : ℕ) → 768 ≤ length old → Means true text m → n ≡ length text → Writ m old (text ++ drop n old) n
+writ m old text n long means size = record {
+  long = long;
+  ranged = meant_ranged true text m means;
+  size = omega (arith, means.sized.1);
+  text = subst (λ (t : List ℕ). Means true t m) (sym (take_at text (drop n old) n (sym size))) means;
+  rest = drop_at text (drop n old) n (sym size);
+}
 
 pub returns : goal.returns
 returns c =
-    let w = written c.args.message.now c.args.buffer.now c.put_head-event.new.buffer c.put_values-end.new.buffer c.put_foot.new.buffer c.put_head-event.result c.put_values-end.result c.put_foot.result c.method.result c.method.ensures c.put_head-event.ensures.put c.put_values-end.ensures.wrote c.put_foot.ensures.put in
-    record {
-      long = omega arith;
-      ranged = c.if-not-in_range.ensures.0 refl;
-      size = omega (arith, roomy c.args.message.now, c.put_head-event.ensures.size, c.put_values-end.ensures.size, c.put_foot.ensures.size);
-      text = whole c.args.buffer.now c.put_foot.new.buffer c.put_foot.result c.args.message.now (omega (arith, c.put_foot.ensures.size)) (omega (arith, roomy c.args.message.now, c.put_head-event.ensures.size, c.put_values-end.ensures.size, c.put_foot.ensures.size)) (omega (arith, roomy c.args.message.now, c.put_head-event.ensures.size, c.put_values-end.ensures.size, c.put_foot.ensures.size, c.put_head-event.auto.buffer, c.put_values-end.auto.buffer, c.put_foot.auto.buffer)) w;
-      rest = w.put.rest;
-    }
+    let means = subst (HouseText c.args.message.now) c.in_ok-text.ensures.ok_part c.house_text.ensures in
+    rw (c.copy_from_slice.ensures.after, c.deref.ensures.0) (writ c.args.message.now c.args.buffer.now c.in_ok-text.text.items c.len-length.result c.if-buffer-lt-LONGEST.false means c.len-length.ensures.value)

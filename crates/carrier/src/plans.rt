@@ -28,12 +28,12 @@ impl Plan {
         ensures { ReadsPlan digits.now result }
     {
         if digits.is_empty() || digits.len() > 64 {
-            return Err(NotMade::Refused(Fault::new(Layer::Carrier, Cause::Range)));
+            return Err(Fault::new(Layer::Carrier, Cause::Range).into());
         }
         let mut fates = Vec::with_capacity(heap, digits.len())?;
         // A loop, since a chain is no plainer: `collect` would take the memory digit by digit, and mix want of memory with a bad digit.
         for digit in digits {
-            fates.push_reserved(Fate::try_from(*digit).map_err(NotMade::Refused)?);
+            fates.push_reserved(Fate::try_from(*digit)?);
         }
         Ok(Plan { fates })
     }

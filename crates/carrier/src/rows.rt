@@ -15,7 +15,7 @@ impl Row {
         ensures { MakesRow room result }
     {
         if room < 1 || room > 64 {
-            return Err(NotMade::Refused(Fault::new(Layer::Carrier, Cause::Range)));
+            return Err(Fault::new(Layer::Carrier, Cause::Range).into());
         }
         let slots = Vec::with_capacity(heap, room)?;
         Ok(Row { slots, room })

@@ -1,5 +1,6 @@
 // Calls of any countable carrier.
 use carrier::{Address, Countable};
+use casebook::{Answer, trailing_dots};
 use fault::Fault;
 use std::fmt::Display;
 use std::str::from_utf8;
@@ -24,12 +25,10 @@ fn address(text: &str) -> Address {
 fn told<A: Display + Drop>(
     rt: &HostRuntime,
     line: &str,
-    answer: Result<A, Fault>,
+    answered: Result<A, Fault>,
 ) -> anyhow::Result<()> {
-    match answer {
-        Ok(answer) => println!(rt; "{line} = {answer}")?,
-        Err(fault) => println!(rt; "{line} = {fault}")?,
-    }
+    let answer = Answer { result: answered };
+    println!(rt; "{line} = {answer}")?;
     Ok(())
 }
 
@@ -61,11 +60,7 @@ fn fetch<C: Countable>(
     let (to, size) = rest.split_once(' ').unwrap_or((rest, "768"));
     let mut buffer = vec![in rt.alloc(); b'.'; size.parse::<usize>().unwrap_or(0)]?;
     let answer = carrier.fetch(address(to), buffer.as_mut_slice());
-    let dots = buffer
-        .iter()
-        .rev()
-        .take_while(|byte| **byte == b'.')
-        .count();
+    let dots = trailing_dots(buffer.as_slice());
     match answer {
         Ok(length) => {
             let shown = buffer.get(0..length.min(20)).unwrap_or(b"?");

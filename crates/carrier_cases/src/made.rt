@@ -1,6 +1,7 @@
 // The carrier that the calls are for, and how one is made.
 use crate::calls::call;
 use carrier::{Fates, Plan, Ring, Stack};
+use casebook::Answer;
 use fault::NotMade;
 
 // An enum and no `Box<dyn Countable>`, since a rule of the gate needs it: no function may make a dyn value and hand it out.
@@ -47,11 +48,10 @@ fn report(
     line: &str,
     made: Result<Made, NotMade>,
 ) -> anyhow::Result<Option<Made>> {
-    match &made {
-        Ok(_) => println!(rt; "{line} = made")?,
-        Err(NotMade::Refused(fault)) => println!(rt; "{line} = {fault}")?,
-        Err(NotMade::Memory) => println!(rt; "{line} = no memory")?,
-    }
+    let answer = Answer {
+        result: made.as_ref().map(|_| "made"),
+    };
+    println!(rt; "{line} = {answer}")?;
     Ok(made.ok())
 }
 

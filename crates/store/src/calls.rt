@@ -17,7 +17,7 @@ impl<W: Supersede<SPARE>, const SPARE: usize> EntryStore<W, SPARE> {
         ensures { MakesStore SPARE size result }
     {
         if size <= SPARE || size > 320 {
-            return Err(NotMade::Refused(Fault::new(Layer::Store, Cause::Range)));
+            return Err(Fault::new(Layer::Store, Cause::Range).into());
         }
         let entries = Vec::with_capacity(heap, size)?;
         Ok(EntryStore {

@@ -1,4 +1,5 @@
 // Calls of any store.
+use casebook::{Answer, trailing_dots};
 use fault::Fault;
 use std::fmt::Display;
 use std::str::from_utf8;
@@ -24,12 +25,10 @@ fn key(text: &str) -> Key {
 fn told<A: Display + Drop>(
     rt: &HostRuntime,
     line: &str,
-    answer: Result<A, Fault>,
+    answered: Result<A, Fault>,
 ) -> anyhow::Result<()> {
-    match answer {
-        Ok(answer) => println!(rt; "{line} = {answer}")?,
-        Err(fault) => println!(rt; "{line} = {fault}")?,
-    }
+    let answer = Answer { result: answered };
+    println!(rt; "{line} = {answer}")?;
     Ok(())
 }
 
@@ -67,11 +66,7 @@ fn get<S: Store>(rt: &HostRuntime, store: &mut S, line: &str, rest: &str) -> any
     let (name, size) = rest.split_once(' ').unwrap_or((rest, "192"));
     let mut buffer = vec![in rt.alloc(); b'.'; size.parse::<usize>().unwrap_or(0)]?;
     let answer = store.get(key(name), buffer.as_mut_slice());
-    let dots = buffer
-        .iter()
-        .rev()
-        .take_while(|byte| **byte == b'.')
-        .count();
+    let dots = trailing_dots(buffer.as_slice());
     match answer {
         Ok(length) => {
             let shown = buffer.get(0..length.min(20)).unwrap_or(b"?");

@@ -1,5 +1,6 @@
 // The store that the calls are for, and how one is made.
 use crate::calls::call;
+use casebook::Answer;
 use fault::NotMade;
 use store::{Log, Table};
 
@@ -37,11 +38,10 @@ fn report(
     line: &str,
     made: Result<Made, NotMade>,
 ) -> anyhow::Result<Option<Made>> {
-    match &made {
-        Ok(_) => println!(rt; "{line} = made")?,
-        Err(NotMade::Refused(fault)) => println!(rt; "{line} = {fault}")?,
-        Err(NotMade::Memory) => println!(rt; "{line} = no memory")?,
-    }
+    let answer = Answer {
+        result: made.as_ref().map(|_| "made"),
+    };
+    println!(rt; "{line} = {answer}")?;
     Ok(made.ok())
 }
 

@@ -1,5 +1,5 @@
 // The names of the methods.
-ghost use Rattle.std.specs.Prelude.{◌≡◌, Some};
+ghost use Rattle.std.specs.Prelude.{◌≡◌, ◌≤◌, length, Some};
 ghost use Rattle.message.specs.Names.{method_name};
 
 use crate::kinds::Method;
@@ -7,7 +7,8 @@ use std::fmt;
 
 impl Method {
     pub fn name(self) -> &'static str
-        ensures { result.now ≡ method_name self }
+        ensures value { result.now ≡ method_name self }
+        ensures size { length result.now ≤ 7 }
     {
         match self {
             Method::Request => "REQUEST",

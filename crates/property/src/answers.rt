@@ -1,5 +1,5 @@
 // What a door can answer, as PARTSTAT has it.
-ghost use Rattle.std.specs.Prelude.{◌≡◌, Some};
+ghost use Rattle.std.specs.Prelude.{◌≡◌, ◌≤◌, length, Some};
 ghost use Rattle.property.specs.Values.{answer_text};
 
 use crate::kinds::Answer;
@@ -7,7 +7,8 @@ use std::fmt;
 
 impl Answer {
     pub fn name(self) -> &'static str
-        ensures { result.now ≡ answer_text self }
+        ensures value { result.now ≡ answer_text self }
+        ensures size { length result.now ≤ 9 }
     {
         match self {
             Answer::Accepted => "ACCEPTED",

@@ -15,7 +15,7 @@ use Rattle.writer.specs.Writing.{head, foot, frame}
 use Rattle.writer.proofs.Fitting.{line_of, longest, fit_line, name_kind, line_room}
 use Rattle.writer.proofs.Legible.{every}
 use Rattle.lines.specs.Bytes.{name_byte, printable, separates}
-use Rattle.message.specs.Names.{method_text}
+use Rattle.message.specs.Names.{method_name, method_text}
 
 all_fit_append : (ls ks : List Content) → AllFit ls → AllFit ks → AllFit (ls ++ ks)
 all_fit_append [] ks a b = b
@@ -123,3 +123,12 @@ whole msg n front now all b is =
       count = length w.lines;
       led = record { lines = w.lines; fit = w.fit; size = refl; read = take_all _ _ (omega arith) ∙ is ∙ w.written; leads = w.leads };
     }
+
+-- the lines before an event, put together around the method's name
+abbrev close : List ℕ
+close = 13 ∷ (10 ∷ [])
+
+pub head_is : (m : Method) (name : List ℕ) → name ≡ method_name m → (codes "BEGIN:VCALENDAR" ++ close) ++ ((codes "VERSION:2.0" ++ close) ++ ((codes "PRODID:-//DOORS//ITIP 1//EN" ++ close) ++ (codes "METHOD:" ++ (name ++ (close ++ ((codes "BEGIN:VEVENT" ++ close) ++ [])))))) ≡ flat_map closed (head m)
+head_is Request name e = rw e refl
+head_is Cancel name e = rw e refl
+head_is Reply name e = rw e refl

@@ -1,25 +1,13 @@
 // ATTENDEE: a door's answer and its address.
 ghost use Rattle.std.specs.Prelude.{◌≡◌, ◌≤◌, length};
 ghost use Rattle.stamp.specs.Stamps.{Real};
-ghost use Rattle.property.specs.Values.{AttendeeText, Partstat, door_of, answer_text, shown_text};
+ghost use Rattle.property.specs.Values.{AttendeeText, Partstat, door_of, shown_text};
 ghost use Rattle.writer.specs.Ranges.{AttendeeRanged};
 ghost use Rattle.writer.specs.Writing.{HeardText};
 
 use crate::numbers::door_text;
 use crate::putting::{Text, joined};
 use property::{Answer, Attendee, Door, Heard};
-
-// An answer's text, by a match to byte strings: Display writes characters, and a text is bytes.
-fn answer_text(answer: Answer) -> &'static [u8]
-    ensures value { result.now ≡ answer_text answer }
-    ensures size { length result.now ≤ 12 }
-{
-    match answer {
-        Answer::Accepted => b"ACCEPTED",
-        Answer::Declined => b"DECLINED",
-        Answer::Tentative => b"TENTATIVE",
-    }
-}
 
 // The text of the answer that the site shows.
 fn shown_text(shown: Option<Answer>) -> &'static [u8]
@@ -28,7 +16,7 @@ fn shown_text(shown: Option<Answer>) -> &'static [u8]
 {
     match shown {
         None => b"NEEDS-ACTION",
-        Some(answer) => answer_text(answer),
+        Some(answer) => answer.name().as_bytes(),
     }
 }
 
@@ -51,7 +39,7 @@ fn partstat_text(attendee: Attendee) -> Text
             None => joined(&[b"NEEDS-ACTION"]),
             Some(heard) => heard_text(heard),
         },
-        Attendee::Answering { answer, .. } => joined(&[answer_text(answer)]),
+        Attendee::Answering { answer, .. } => joined(&[answer.name().as_bytes()]),
     }
 }
 

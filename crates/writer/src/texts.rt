@@ -2,7 +2,6 @@
 ghost use Rattle.std.specs.Prelude.{◌≡◌, ◌+◌, ◌≤◌, ◌++◌, [], length};
 ghost use Rattle.std.specs.List.{flat_map};
 ghost use Rattle.lines.specs.Content.{closed};
-ghost use Rattle.message.specs.Names.{method_text};
 ghost use Rattle.writer.specs.Writing.{head, foot, HouseText, Writes};
 
 use crate::putting::{joined, put_all};
@@ -47,18 +46,6 @@ fn house_text(message: &Message) -> Option<House>
     Some(text)
 }
 
-// A method's text, by a match to byte strings: Display writes characters, and a text is bytes.
-fn method_text(method: Method) -> &'static [u8]
-    ensures value { result.now ≡ method_text method }
-    ensures size { length result.now ≤ 8 }
-{
-    match method {
-        Method::Request => b":REQUEST",
-        Method::Cancel => b":CANCEL",
-        Method::Reply => b":REPLY",
-    }
-}
-
 // The lines before the properties.
 fn head_text(method: Method) -> House
     ensures value { result.items ≡ flat_map closed (head method) }
@@ -68,8 +55,8 @@ fn head_text(method: Method) -> House
         b"BEGIN:VCALENDAR\r\n",
         b"VERSION:2.0\r\n",
         b"PRODID:-//DOORS//ITIP 1//EN\r\n",
-        b"METHOD",
-        method_text(method),
+        b"METHOD:",
+        method.name().as_bytes(),
         b"\r\n",
         b"BEGIN:VEVENT\r\n",
     ])

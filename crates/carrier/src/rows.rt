@@ -14,7 +14,7 @@ impl Row {
     pub(crate) fn new(heap: Global, room: usize) -> Result<Row, NotMade>
         ensures { MakesRow room result }
     {
-        if room < 1 || room > 64 {
+        if !(1..=64).contains(&room) {
             return Err(Fault::new(Layer::Carrier, Cause::Range).into());
         }
         let slots = Vec::with_capacity(heap, room)?;

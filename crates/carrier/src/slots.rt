@@ -18,6 +18,7 @@ impl Slot {
     }
 
     // Copies the text to the front of the buffer, keeps the buffer's rest, and tells the length.
+    // Three lines, as for a row of a store: a function for both would be a crate for both, and no plainer.
     pub(crate) fn copy_to(&self, buffer: &mut [u8]) -> usize
         requires { 768 ≤ length buffer.old }
         ensures size { result ≡ length (letter_in self.now).text }

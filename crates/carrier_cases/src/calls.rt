@@ -51,6 +51,7 @@ fn post<C: Countable>(
 }
 
 // `fetch 3 n`, with a buffer of n bytes that are all dots before.
+// What is printed is alike in `store_cases`: no clause can say what is printed, so a function for both would promise nothing.
 fn fetch<C: Countable>(
     rt: &HostRuntime,
     carrier: &mut C,

@@ -7,6 +7,7 @@ use crate::kinds::{Cause, Layer};
 use std::fmt;
 
 impl Cause {
+    // Written here, for layers and for properties: a cast is of one type, and none is generic.
     pub fn number(self) -> u8
         ensures { result ≡ cause_number self }
     {

@@ -45,7 +45,7 @@ impl Fault {
         Fault { property, ..self }
     }
 
-    // The number of the property that this fault names, 0 where it names none, as it is printed.
+    // The number of the property that this fault names; a rule of faults prints 0 where it names none.
     pub fn property_number(self) -> u8
         ensures { result ≡ property_or0 self.property }
     {

@@ -6,6 +6,7 @@ mod calls;
 use calls::answer;
 use std::io::{BufRead, BufReader};
 
+// Each program of cases has this loop: no clause can say what an input gives, so a function for all would promise nothing.
 fn main(rt: HostRuntime) -> anyhow::Result<()> {
     for line in BufReader::new(rt.alloc(), rt.stdin())?.lines(rt.alloc()) {
         let line = line?;

@@ -45,6 +45,7 @@ impl Reading {
     }
 
     // Reads one line: moves on, or tells its number and why it may not stand here.
+    // A `match`: by `map_err` the proof of the refusal did not close.
     pub(crate) fn take(&mut self, line: &Line) -> Result<(), Fault>
         ensures { Takes line.now (state_of self.old) (state_of self.new) result }
     {

@@ -14,6 +14,7 @@ use crate::periods::read_front;
 use stamp::Stamp;
 
 // The answer at the front of a text, or none where no answer stands there, and what follows it.
+// Three tests in a row: a search through the three answers is no plainer, since its proof has to know that there are no others.
 fn read_answer(text: &[u8]) -> Option<(Answer, &[u8])>
     ensures { MatchOption result ((a : Answer) (rest : List ℕ) → text.now ≢ answer_text a ++ rest) (λ p. text.now ≡ answer_text p.0 ++ p.1.now) }
 {

@@ -8,6 +8,7 @@ use crate::kinds::{Door, Meeting};
 use crate::marks::{is, strip};
 use rank::Sequence;
 
+// Meetings and doors stay two types, though each is a number up to a last one: by a type with the last number as its parameter, two kinds with one last number would be one.
 impl Meeting {
     // Whether there is a meeting of this number.
     pub fn is_real(self) -> bool

@@ -25,6 +25,7 @@ pub trait Ranked {
     ghost level: { (a b : Self) → (Newer (rank a) (rank b) → ⊥) → (Newer (rank b) (rank a) → ⊥) → rank a ≡ rank b };
 }
 
+// Each of the two gives its own proof of each law and its own comparison, since both rest on its fields; the words are alike because both are found.
 impl Ranked for Revision {
     ghost rank = { λ r. r.sequence.number ∷ (r.dtstamp.seconds ∷ []) };
 

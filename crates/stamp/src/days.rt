@@ -37,6 +37,7 @@ fn days_of_years(n: u32) -> u32
 }
 
 // The days of the first n months of a year.
+// A `for`: as a sum over a range of months, the proof that it fits did not close.
 fn days_of_months(year: u32, n: u32) -> u32
     requires { n ≤ 12 }
     ensures { result ≡ days_of_months year n }

@@ -93,10 +93,7 @@ impl Stamp {
 impl fmt::Display for Stamp {
     fn fmt<W: fmt::Write>(&self, f: &mut fmt::Formatter<W>) -> fmt::Result {
         let text = self.text();
-        match str::from_utf8(&text) {
-            Ok(shown) => f.write_str(shown),
-            Err(_) => Err(fmt::Error),
-        }
+        f.write_str(str::from_utf8(&text).map_err(|_| fmt::Error)?)
     }
 }
 

@@ -29,6 +29,7 @@ impl Entry {
     }
 
     // Copies the row to the front of the buffer, keeps the buffer's rest, and tells the length.
+    // Three lines, as for a letter of a carrier: a function for both would be a crate for both, and no plainer.
     pub fn copy_to(&self, buffer: &mut [u8]) -> usize
         requires { 192 ≤ length buffer.old }
         ensures size { result ≡ length (bytes_in self.now) }

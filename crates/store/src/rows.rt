@@ -13,7 +13,7 @@ pub trait Store {
     fn put(&mut self, key: Key, row: &[u8]) -> Result<(), Fault>
         ensures { Put key.number row.now (rows self.old) (rows self.new) result };
 
-    // Copies the row of a key to the buffer's front and tells its length, 0 for none. Refused: a buffer under 192 bytes, then a bad key.
+    // Copies the row of a key to the buffer's front and tells its length, 0 for none: a rule of stores asks for a length, and no row has none. Refused: a buffer under 192 bytes, then a bad key.
     fn get(&self, key: Key, buffer: &mut [u8]) -> Result<usize, Fault>
         ensures { Got key.number buffer.old buffer.new (rows self.now).row result };
 

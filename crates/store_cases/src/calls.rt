@@ -62,6 +62,7 @@ fn rewrite<S: Store>(
 }
 
 // `get 3 n`, with a buffer of n bytes that are all dots before.
+// What is printed is alike in `carrier_cases`: no clause can say what is printed, so a function for both would promise nothing.
 fn get<S: Store>(rt: &HostRuntime, store: &mut S, line: &str, rest: &str) -> anyhow::Result<()> {
     let (name, size) = rest.split_once(' ').unwrap_or((rest, "192"));
     let mut buffer = vec![in rt.alloc(); b'.'; size.parse::<usize>().unwrap_or(0)]?;

@@ -20,7 +20,7 @@ fn shown_text(shown: Option<Answer>) -> &'static [u8]
     }
 }
 
-// What the site holds of a door's answer.
+// What the site holds of a door's answer. It asks for a stamp that is one, as the texts of stamps do.
 fn heard_text(heard: Heard) -> Text
     requires { Real heard.at.seconds }
     ensures { HeardText heard result.items }

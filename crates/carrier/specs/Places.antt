@@ -28,17 +28,17 @@ for_read to [] k s h e = absurd (omega arith)
 for_read to (x ∷ ss) zero s h e = ap (λ (y : Slot). nat_eq y.to.number to) (sym e)
 for_read to (x ∷ ss) (suc k) s h e = for_read to ss k s (omega arith) e
 
-none_for : (to : ℕ) (ls : List Letter) → ((k : ℕ) → for_at to ls k ≡ false) → waiting_for to ls ≡ 0
+pub none_for : (to : ℕ) (ls : List Letter) → ((k : ℕ) → k < length ls → for_at to ls k ≡ false) → waiting_for to ls ≡ 0
 none_for to [] h = refl
 none_for to (x ∷ xs) h =
-    let here : nat_eq x.to to ≡ false = h 0 in
-    rw here (omega (arith, none_for to xs (λ k. h (suc k))))
+    let here : nat_eq x.to to ≡ false = h 0 (omega arith) in
+    rw here (omega (arith, none_for to xs (λ k l. h (suc k) (omega arith))))
 
 pub count_slots : (to : ℕ) (ss : List Slot) → waiting_for to (map letter_in ss) ≡ count_by (λ s. s.to.number == to) ss
 count_slots to = is_count_by (λ ss. waiting_for to (map letter_in ss)) (λ s. s.to.number == to) refl (λ s ss. grind (arith, nat_tests))
 
 pub picks : (sooner : ℕ → ℕ → Type 0) (to : ℕ) (ss : List Slot) (r : Option ℕ) → MatchOption r (AllWithin (λ s. s.to.number ≢ to) ss 0 (length ss)) (λ i. (i < length ss) × HoldsAt (λ s. s.to.number ≡ to) ss i × ((k : ℕ) (d : Slot) → sooner k i → k < length ss → (get_or ss k d).to.number ≢ to)) → Picks sooner to (map letter_in ss) r
-picks sooner to ss None h = none_for to (map letter_in ss) (λ k. for_another to ss k (λ l d. h k d (omega arith) l))
+picks sooner to ss None h = none_for to (map letter_in ss) (λ k _. for_another to ss k (λ l d. h k d (omega arith) l))
 picks sooner to ss (Some i) h = ((omega (arith, h.0, length-map ss letter_in), for_there to ss i h.0 h.1), λ k m. for_another to ss k (λ l d. h.2 k d m l))
 
 split_here : {X : Type 0} (xs : List X) (i : ℕ) (d : X) → i < length xs → xs ≡ take i xs ++ (slice_index_or xs i d ∷ drop (i + 1) xs)

@@ -8,7 +8,7 @@ use Rattle.store.specs.declared.entry.Entry.{Entry}
 use Rattle.store.specs.declared.stores.EntryStore.{EntryStore}
 use Rattle.store.specs.Rows.{Rows, Fit, Sound, Sets, NotGot, Got, Kept, NotKept, bytes_of, held_in}
 use Rattle.store.specs.Entries.{bytes_in, later, says, row_in, Holds, Newest, Wrote}
-use Rattle.store.specs.Stores.{rows_of}
+use Rattle.store.specs.Stores.{rows_of, Table, table_rows, Log, log_rows}
 use Rattle.store.specs.Held.{held_again, held_more}
 use Rattle.store.specs.Newest.{row_none, row_some}
 
@@ -61,6 +61,13 @@ kept_sound es n h = record { within = h; fit = fit_rows es }
 -- what the store over entries keeps by its type is what every store keeps
 pub entries_sound : {W : Type 0} {spare : ℕ} (s : EntryStore W spare) → Sound (rows_of s)
 entries_sound s = kept_sound s.entries.items s.capacity (omega (arith, s.apart, s.within))
+
+-- so do the table and the log
+pub table_sound : (t : Table) → Sound (table_rows t)
+table_sound t = entries_sound t
+
+pub log_sound : (l : Log) → Sound (log_rows l)
+log_sound l = entries_sound l
 
 -- a row that was put comes back
 not_refused : (key : ℕ) (bytes old : List ℕ) (f : Fault) → Fit key bytes → 192 ≤ length old → NotGot key old f → ⊥

@@ -6,6 +6,8 @@ use Rattle.fault.specs.declared.kinds.NotMade.{NotMade}
 use Rattle.fault.specs.declared.kinds.NotMade.TheVariants.{Refused, Memory}
 use Rattle.fault.specs.Numbers.{told}
 use Rattle.store.specs.declared.stores.EntryStore.{EntryStore}
+use Rattle.store.specs.declared.writing.Append.{Append}
+use Rattle.store.specs.declared.writing.Overwrite.{Overwrite}
 use Rattle.store.specs.Entries.{row_in}
 use Rattle.store.specs.Rows.{Rows}
 
@@ -23,3 +25,23 @@ abbrev pub MakesStore : {W : Type 0} (spare n : ℕ) → Result (EntryStore W sp
 MakesStore spare n (Ok s) = Empty (n - spare) (rows_of s)
 MakesStore spare n (Err (Refused f)) = (f ≡ told Store Range) × ((spare < n) × (n ≤ 320) → ⊥)
 MakesStore spare n (Err Memory) = (spare < n) × (n ≤ 320)
+
+-- the table: it may hold as many rows as it has slots, 1 to 320
+abbrev pub Table : Type 0
+Table = EntryStore Overwrite 0
+
+abbrev pub table_rows : Table → Rows
+table_rows t = rows_of t
+
+abbrev pub MakesTable : ℕ → Result Table NotMade → Type 0
+MakesTable n r = MakesStore 0 n r
+
+-- the log: it may hold one row less than it has entries, 2 to 320
+abbrev pub Log : Type 0
+Log = EntryStore Append 1
+
+abbrev pub log_rows : Log → Rows
+log_rows l = rows_of l
+
+abbrev pub MakesLog : ℕ → Result Log NotMade → Type 0
+MakesLog n r = MakesStore 1 n r

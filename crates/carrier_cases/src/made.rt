@@ -43,6 +43,7 @@ fn fates(rt: &HostRuntime, rest: &str) -> Result<Made, NotMade> {
     Ok(Made::Fates(Fates::new(below, plan)))
 }
 
+// Printed here, as what a call answered in calls.rt: no clause can say what is printed.
 fn report(
     rt: &HostRuntime,
     line: &str,

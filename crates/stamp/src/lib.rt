@@ -27,6 +27,7 @@ impl Stamp {
     }
 
     // The stamp that a text writes, or none where no stamp has this text.
+    // `read`, here and for what else has a text, and no `TryFrom`: of bytes that are none there is nothing to tell, so the error would say nothing and each caller drop it.
     pub fn read(text: &[u8]) -> Option<Stamp>
         ensures { Read text.now result }
     {

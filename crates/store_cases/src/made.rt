@@ -33,6 +33,7 @@ fn log(rt: &HostRuntime, size: &str) -> Result<Made, NotMade> {
     Ok(Made::Log(Log::new(rt.alloc(), number(size))?))
 }
 
+// Printed here, as what a call answered in calls.rt: no clause can say what is printed.
 fn report(
     rt: &HostRuntime,
     line: &str,

@@ -1,6 +1,6 @@
 // Calls of any countable carrier.
 use carrier::{Address, Countable};
-use casebook::{Answer, trailing_dots};
+use casebook::{Outcome, trailing_dots};
 use fault::Fault;
 use std::fmt::Display;
 use std::str::from_utf8;
@@ -27,8 +27,8 @@ fn told<A: Display + Drop>(
     line: &str,
     answered: Result<A, Fault>,
 ) -> anyhow::Result<()> {
-    let answer = Answer { result: answered };
-    println!(rt; "{line} = {answer}")?;
+    let outcome = Outcome { result: answered };
+    println!(rt; "{line} = {outcome}")?;
     Ok(())
 }
 

@@ -1,7 +1,7 @@
 // The carrier that the calls are for, and how one is made.
 use crate::calls::call;
 use carrier::{Fates, Plan, Ring, Stack};
-use casebook::Answer;
+use casebook::Outcome;
 use fault::NotMade;
 
 // An enum and no `Box<dyn Countable>`, since a rule of the gate needs it: no function may make a dyn value and hand it out.
@@ -49,10 +49,10 @@ fn report(
     line: &str,
     made: Result<Made, NotMade>,
 ) -> anyhow::Result<Option<Made>> {
-    let answer = Answer {
+    let outcome = Outcome {
         result: made.as_ref().map(|_| "made"),
     };
-    println!(rt; "{line} = {answer}")?;
+    println!(rt; "{line} = {outcome}")?;
     Ok(made.ok())
 }
 

@@ -8,11 +8,11 @@ use std::fmt;
 
 // What a call answered, as a line of a table ends with it: the value, or why there is none.
 #[derive(Clone, Copy, Debug)]
-pub struct Answer<T, E> {
+pub struct Outcome<T, E> {
     pub result: Result<T, E>,
 }
 
-impl<T: fmt::Display, E: fmt::Display> fmt::Display for Answer<T, E> {
+impl<T: fmt::Display, E: fmt::Display> fmt::Display for Outcome<T, E> {
     ghost output = { λ a. elim a.result [ Ok value ↦ T.output value | Err error ↦ E.output error ] };
 
     fn fmt<W: fmt::Write>(&self, f: &mut fmt::Formatter<W>) -> fmt::Result {

@@ -1,5 +1,5 @@
 // One call a line.
-use casebook::Answer;
+use casebook::Outcome;
 use fault::{Cause, Fault, Layer};
 use rank::{Revision, Sequence, keep_newer};
 use stamp::Stamp;
@@ -43,8 +43,8 @@ fn read(rt: &HostRuntime, line: &str, text: &str) -> io::Result<()> {
     let result = Stamp::read(text.as_bytes())
         .map(|stamp| stamp.seconds)
         .ok_or("none");
-    let answer = Answer { result };
-    println!(rt; "{line} = {answer}")
+    let outcome = Outcome { result };
+    println!(rt; "{line} = {outcome}")
 }
 
 fn seconds(text: &str) -> Stamp {
@@ -63,8 +63,8 @@ fn fresh(rt: &HostRuntime, line: &str, numbers: &str) -> io::Result<()> {
         return println!(rt; "{line} = not two numbers");
     };
     let result = Stamp::fresh(seconds(clock), seconds(previous)).map(|stamp| stamp.seconds);
-    let answer = Answer { result };
-    println!(rt; "{line} = {answer}")
+    let outcome = Outcome { result };
+    println!(rt; "{line} = {outcome}")
 }
 
 // Revisions as SEQUENCE/DTSTAMP, one after another; the first is held, and each that follows comes in.

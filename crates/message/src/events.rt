@@ -35,6 +35,7 @@ impl Event {
     }
 
     // Puts a value in its place, the one that is wanted after so many.
+    // Method and count are two parameters, here and below: the stage has the one and the reading the other, and an event is put together from both.
     pub(crate) fn put(&mut self, method: Method, read: usize, value: &Value)
         requires { (wanted method read ≡ Some (property_of (part_of value.now))) × (belongs method (part_of value.now) ≡ true) }
         ensures { slots method self.new ≡ slice_set (slots method self.old) read (part_of value.now) }

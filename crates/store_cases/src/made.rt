@@ -1,6 +1,6 @@
 // The store that the calls are for, and how one is made.
 use crate::calls::call;
-use casebook::Answer;
+use casebook::Outcome;
 use fault::NotMade;
 use store::{Log, Table};
 
@@ -39,10 +39,10 @@ fn report(
     line: &str,
     made: Result<Made, NotMade>,
 ) -> anyhow::Result<Option<Made>> {
-    let answer = Answer {
+    let outcome = Outcome {
         result: made.as_ref().map(|_| "made"),
     };
-    println!(rt; "{line} = {answer}")?;
+    println!(rt; "{line} = {outcome}")?;
     Ok(made.ok())
 }
 

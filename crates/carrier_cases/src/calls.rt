@@ -1,9 +1,8 @@
 // Calls of any countable carrier.
 use carrier::{Address, Countable};
-use casebook::{Outcome, trailing_dots};
+use casebook::{Copied, Outcome};
 use fault::Fault;
 use std::fmt::Display;
-use std::str::from_utf8;
 
 pub fn call<C: Countable>(rt: &HostRuntime, carrier: &mut C, line: &str) -> anyhow::Result<()> {
     let (name, rest) = line.split_once(' ').unwrap_or((line, ""));
@@ -22,6 +21,7 @@ fn address(text: &str) -> Address {
     }
 }
 
+// Printed here, and in the other tables of calls: no clause can say what is printed, so a function for all would promise nothing.
 fn told<A: Display + Drop>(
     rt: &HostRuntime,
     line: &str,
@@ -51,7 +51,6 @@ fn post<C: Countable>(
 }
 
 // `fetch 3 n`, with a buffer of n bytes that are all dots before.
-// What is printed is alike in `store_cases`: no clause can say what is printed, so a function for both would promise nothing.
 fn fetch<C: Countable>(
     rt: &HostRuntime,
     carrier: &mut C,
@@ -60,15 +59,11 @@ fn fetch<C: Countable>(
 ) -> anyhow::Result<()> {
     let (to, size) = rest.split_once(' ').unwrap_or((rest, "768"));
     let mut buffer = vec![in rt.alloc(); b'.'; size.parse::<usize>().unwrap_or(0)]?;
-    let answer = carrier.fetch(address(to), buffer.as_mut_slice());
-    let dots = trailing_dots(buffer.as_slice());
-    match answer {
-        Ok(length) => {
-            let shown = buffer.get(0..length.min(20)).unwrap_or(b"?");
-            let text = from_utf8(shown).unwrap_or("?");
-            println!(rt; "{line} = {length} bytes, {text}, then {dots} dots")?;
-        }
-        Err(fault) => println!(rt; "{line} = {fault}, {dots} dots")?,
-    }
+    let answered = carrier.fetch(address(to), buffer.as_mut_slice());
+    let copied = Copied {
+        result: answered,
+        buffer: buffer.as_slice(),
+    };
+    println!(rt; "{line} = {copied}")?;
     Ok(())
 }

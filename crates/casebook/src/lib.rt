@@ -1,9 +1,11 @@
 // What the tables of cases say in the same words: what a call answered, and how much of a buffer it left.
 #![tactic(auto)]
 
-ghost use Rattle.std.specs.Prelude.{◌≡◌, Ok, Err, ◌==◌};
-ghost use Rattle.std.specs.List.{suffix_len};
+ghost use Rattle.std.specs.Prelude.{Ok, Err};
 
+mod buffers;
+
+pub use buffers::{Copied, trailing_dots};
 use std::fmt;
 
 // What a call answered, as a line of a table ends with it: the value, or why there is none.
@@ -21,15 +23,4 @@ impl<T: fmt::Display, E: fmt::Display> fmt::Display for Outcome<T, E> {
             Err(error) => write!(f, "{error}"),
         }
     }
-}
-
-// How many dots a buffer ends with. A table's buffers are all dots before a call.
-pub fn trailing_dots(buffer: &[u8]) -> usize
-    ensures { result ≡ suffix_len (λ byte. byte == 46) buffer.now }
-{
-    buffer
-        .iter()
-        .rev()
-        .take_while(|byte| **byte == b'.')
-        .count()
 }

@@ -1,8 +1,7 @@
 // Calls of any store.
-use casebook::{Outcome, trailing_dots};
+use casebook::{Copied, Outcome};
 use fault::Fault;
 use std::fmt::Display;
-use std::str::from_utf8;
 use store::{Key, Store};
 
 pub fn call<S: Store>(rt: &HostRuntime, store: &mut S, line: &str) -> anyhow::Result<()> {
@@ -22,6 +21,7 @@ fn key(text: &str) -> Key {
     }
 }
 
+// Printed here, and in the other tables of calls: no clause can say what is printed, so a function for all would promise nothing.
 fn told<A: Display + Drop>(
     rt: &HostRuntime,
     line: &str,
@@ -62,19 +62,14 @@ fn rewrite<S: Store>(
 }
 
 // `get 3 n`, with a buffer of n bytes that are all dots before.
-// What is printed is alike in `carrier_cases`: no clause can say what is printed, so a function for both would promise nothing.
 fn get<S: Store>(rt: &HostRuntime, store: &mut S, line: &str, rest: &str) -> anyhow::Result<()> {
     let (name, size) = rest.split_once(' ').unwrap_or((rest, "192"));
     let mut buffer = vec![in rt.alloc(); b'.'; size.parse::<usize>().unwrap_or(0)]?;
-    let answer = store.get(key(name), buffer.as_mut_slice());
-    let dots = trailing_dots(buffer.as_slice());
-    match answer {
-        Ok(length) => {
-            let shown = buffer.get(0..length.min(20)).unwrap_or(b"?");
-            let text = from_utf8(shown).unwrap_or("?");
-            println!(rt; "{line} = {length} bytes, {text}, then {dots} dots")?;
-        }
-        Err(fault) => println!(rt; "{line} = {fault}, {dots} dots")?,
-    }
+    let answered = store.get(key(name), buffer.as_mut_slice());
+    let copied = Copied {
+        result: answered,
+        buffer: buffer.as_slice(),
+    };
+    println!(rt; "{line} = {copied}")?;
     Ok(())
 }

@@ -13,6 +13,16 @@ use Rattle.carrier.specs.Queues.{letter_in, letters, for_at, Picks, TakesOut}
 pub letters-length : (r : Row) → length (letters r) ≡ vec_len r.slots
 letters-length r = length-map (vec_items r.slots) letter_in ∙ sym r.slots.ok.0
 
+-- of any letters: none is behind the last, and those of two lists are those of the one and of the other
+pub for_past : (to : ℕ) (ls : List Letter) (k : ℕ) → length ls ≤ k → for_at to ls k ≡ false
+for_past to [] k h = refl
+for_past to (x ∷ xs) zero h = absurd (omega arith)
+for_past to (x ∷ xs) (suc k) h = for_past to xs k (omega arith)
+
+pub for_append : (to : ℕ) (a b : List Letter) → waiting_for to (a ++ b) ≡ waiting_for to a + waiting_for to b
+for_append to [] b = omega arith
+for_append to (x ∷ a) b = omega (arith, for_append to a b)
+
 for_there : (to : ℕ) (ss : List Slot) (k : ℕ) → k < length ss → HoldsAt (λ s. s.to.number ≡ to) ss k → for_at to (map letter_in ss) k ≡ true
 for_there to [] k l h = absurd (omega arith)
 for_there to (s ∷ ss) zero l h = let e : s.to.number ≡ to = h s in grind (arith, nat_tests)

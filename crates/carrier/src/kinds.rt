@@ -24,6 +24,7 @@ pub struct Slot {
 }
 
 // Letters in the order in which they came, and room for a fixed number of them.
+// Its bounds are stated here and for the entries of a store: a vector of both would be a crate for three clauses.
 #[derive(Drop)]
 pub struct Row {
     pub(crate) slots: Vec<Slot>,

@@ -27,7 +27,7 @@ impl Plan {
     pub fn read(heap: Global, digits: &[u8]) -> Result<Plan, NotMade>
         ensures { ReadsPlan digits.now result }
     {
-        if digits.is_empty() || digits.len() > 64 {
+        if !(1..=64).contains(&digits.len()) {
             return Err(Fault::new(Layer::Carrier, Cause::Range).into());
         }
         let mut fates = Vec::with_capacity(heap, digits.len())?;

@@ -33,6 +33,7 @@ fn told<A: Display + Drop>(
 }
 
 // `post 3 words`, or `post 3 *n` for n bytes.
+// Words or `*n`, here and in the other table: a function that made the bytes of either would say less than it does, since it may lack memory.
 fn post<C: Countable>(
     rt: &HostRuntime,
     carrier: &mut C,

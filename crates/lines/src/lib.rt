@@ -26,6 +26,7 @@ impl<'a> Lines<'a> {
         }
     }
 
+    // `next`, and no `Iterator`: what a step leaves is part of its contract, and the reader asks for the number of the line that is missing at the end.
     // The next line, or none at the end of the text. A text that has not 1 to 768 bytes is refused at line 0; where no content line stands, the fault names its number.
     pub fn next(&mut self) -> Result<Option<Line<'a>>, Fault>
         ensures { Next self.old self.new result }

@@ -1,6 +1,10 @@
 -- The names of lines.
-use Rattle.std.specs.Prelude.{ℕ, cond, List, codes}
+use Rattle.std.specs.Prelude.{◌≡◌, ◌≢◌, ℕ, cond, List, Ok, Err, codes, Result}
 use Rattle.std.specs.Str.{bytes_eq}
+use Rattle.fault.specs.declared.kinds.Fault.{Fault}
+use Rattle.fault.specs.declared.kinds.Cause.TheVariants as cause
+use Rattle.fault.specs.declared.kinds.Layer.TheVariants as layer
+use Rattle.fault.specs.Numbers.{told}
 use Rattle.fault.specs.declared.kinds.Property.{Property}
 use Rattle.fault.specs.declared.kinds.Property.TheVariants as property
 use Rattle.property.specs.Values.{name_text}
@@ -41,3 +45,8 @@ abbrev pub method_name : Method → List ℕ
 method_name Request = codes "REQUEST"
 method_name Cancel = codes "CANCEL"
 method_name Reply = codes "REPLY"
+
+-- what reading the text of a METHOD line answers: the method that it names, or that it names none
+abbrev pub ReadsMethod : List ℕ → Result Method Fault → Type 0
+ReadsMethod text (Ok m) = text ≡ method_text m
+ReadsMethod text (Err f) = ((m : Method) → text ≢ method_text m) × (f ≡ told layer.Framing cause.Method)

@@ -1,11 +1,11 @@
 // The properties that each method has, and their order.
 ghost use Rattle.std.specs.Prelude.{◌≡◌, MatchOption, ◌≢◌};
 ghost use Rattle.message.specs.Meaning.{order, wanted, required};
-ghost use Rattle.message.specs.Names.{method_text};
+ghost use Rattle.message.specs.Names.{ReadsMethod};
 ghost use Rattle.message.specs.declared.kinds.Method.{Method};
 
 use crate::kinds::Method;
-use fault::Property;
+use fault::{Cause, Fault, Layer, Property};
 
 const REQUEST: [Property; 13] = [
     Property::Uid,
@@ -41,19 +41,23 @@ const REPLY: [Property; 6] = [
     Property::Basis,
 ];
 
-impl Method {
-    // The method that the text of a METHOD line names, or none.
-    pub(crate) fn read(text: &[u8]) -> Option<Method>
-        ensures { MatchOption result ((m : Method) → text.now ≢ method_text m) (λ m. text.now ≡ method_text m) }
-    {
+// The method that the text of a METHOD line names.
+impl<'a> TryFrom<&'a [u8]> for Method {
+    type Error = Fault;
+
+    ghost try_from_gives = { λ text r. ReadsMethod text.now r };
+
+    fn try_from(text: &'a [u8]) -> Result<Method, Fault> {
         match text {
-            b":REQUEST" => Some(Method::Request),
-            b":CANCEL" => Some(Method::Cancel),
-            b":REPLY" => Some(Method::Reply),
-            _ => None,
+            b":REQUEST" => Ok(Method::Request),
+            b":CANCEL" => Ok(Method::Cancel),
+            b":REPLY" => Ok(Method::Reply),
+            _ => Err(Fault::new(Layer::Framing, Cause::Method)),
         }
     }
+}
 
+impl Method {
     fn order(self) -> &'static [Property]
         ensures { result.now ≡ order self }
     {

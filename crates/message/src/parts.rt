@@ -38,8 +38,10 @@ impl Body {
         ensures { result ≡ attendee_of door self.now }
     {
         match *self {
-            Body::Request { heard, .. } => Attendee::Invited { door, heard },
-            Body::Cancel { heard } => Attendee::Invited { door, heard },
+            Body::Request { heard, .. } | Body::Cancel { heard } => Attendee::Invited {
+                door,
+                heard,
+            },
             Body::Reply { answer, .. } => Attendee::Answering { door, answer },
         }
     }

@@ -10,7 +10,7 @@ use fault::{Cause, Fault, Layer};
 use property::Period;
 use stamp::Stamp;
 
-// In the place of a date that is not there.
+// In the place of a date that is not there: an array has a value in each place.
 pub(crate) const BLANK: Period = Period {
     start: Stamp { seconds: 0 },
     end: Stamp { seconds: 0 },

@@ -111,10 +111,7 @@ impl Reading {
     fn method(&mut self, text: &[u8]) -> Result<(), Fault>
         ensures { Chooses text.now self.old self.new result }
     {
-        let Some(method) = Method::read(text) else {
-            return Err(Fault::new(Layer::Framing, Cause::Method));
-        };
-        self.stage = Stage::Event(method);
+        self.stage = Stage::Event(Method::try_from(text)?);
         Ok(())
     }
 

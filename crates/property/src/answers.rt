@@ -1,6 +1,6 @@
 // What a door can answer, as PARTSTAT has it.
 ghost use Rattle.std.specs.Prelude.{◌≡◌, ◌≤◌, length, Some};
-ghost use Rattle.property.specs.Values.{answer_text};
+ghost use Rattle.property.specs.Values.{answer_text, shown_text};
 
 use crate::kinds::Answer;
 use std::fmt;
@@ -16,6 +16,14 @@ impl Answer {
             Answer::Tentative => "TENTATIVE",
         }
     }
+}
+
+// The answer that the site shows, as PARTSTAT has it: NEEDS-ACTION where it shows none.
+pub fn partstat(shown: Option<Answer>) -> &'static str
+    ensures value { result.now ≡ shown_text shown }
+    ensures size { length result.now ≤ 12 }
+{
+    shown.map_or("NEEDS-ACTION", Answer::name)
 }
 
 impl fmt::Display for Answer {

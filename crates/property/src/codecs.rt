@@ -10,7 +10,7 @@ use stamp::Stamp;
 pub(crate) trait Text {
     ghost says: { Self → List ℕ → Type 0 };
 
-    // The value that a text writes, or none.
+    // The value that a text writes, or none. No `TryFrom`: which property was wanted, and so what to tell, only the reader of lines knows.
     fn read(text: &[u8]) -> Option<Self>
         ensures { MatchOption result ((v : Self) → says v text.now → ⊥) (λ v. says v text.now) };
 }

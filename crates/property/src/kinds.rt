@@ -39,8 +39,8 @@ pub enum Attendee {
     Answering { door: Door, answer: Answer },
 }
 
-// A title: up to 40 bytes that may stand in one. The empty one stands for none, and has to exist to be refused.
-// An array with a length: a title is copied with the value and the message that it is part of, and an `ArrayVec` cannot be.
+// A title: up to 40 bytes that may stand in one. The empty one stands for none, since a rule of ranges needs it: the writer refuses it.
+// An array with a length: an `ArrayVec` cannot be copied with the message that a title is part of, and an `ArrayString` does not promise that what is not used stays 0.
 #[derive(Clone, Copy)]
 pub struct Title {
     pub(crate) len: usize,

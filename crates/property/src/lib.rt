@@ -12,4 +12,5 @@ mod periods;
 mod titles;
 mod values;
 
+pub use answers::partstat;
 pub use kinds::{Answer, Attendee, Door, Heard, Meeting, Period, Title, Value};

@@ -8,7 +8,7 @@ pub(crate) fn strip<'a>(text: &'a [u8], mark: &[u8]) -> Option<&'a [u8]>
     text.strip_prefix(mark)
 }
 
-// Whether a text is these bytes. A function of its own, since `==` of slices says less to a proof than this contract: the readers that call it prove with no help.
+// Whether a text is these bytes. By `==` alone the proof of a meeting's `read` did not close.
 pub(crate) fn is(text: &[u8], bytes: &[u8]) -> bool
     ensures { Decides result (text.now ≡ bytes.now) }
 {

@@ -8,7 +8,7 @@ use crate::kinds::{Attendee, Value};
 use fault::Property;
 
 impl Value {
-    // The value that a property has in this text, from its separator on, or none where the property never has this text.
+    // The value that a property has in this text, from its separator on, or none where the property never has this text. No `TryFrom`: it is asked with the property.
     pub fn read(property: Property, text: &[u8]) -> Option<Value>
         ensures { Reads property text.now result }
     {

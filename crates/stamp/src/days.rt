@@ -83,6 +83,7 @@ impl Day {
     }
 
     // The day that so many days lead to from the first of a year.
+    // A `for` that takes month by month from what is left: no method of a range does, and the day is what is left at the end.
     fn of_year(year: u32, days: u32) -> Day
         requires { (2000 ≤ year) × ((year ≤ 2099) × (days < year_length year)) }
         ensures { (result.year ≡ year) × (days_of_months result.year (result.month - 1) + (result.day - 1) ≡ days) }

@@ -1,5 +1,5 @@
-// Numbers below 100 as two decimal digits.
-ghost use Rattle.std.specs.Prelude.{◌≡◌, ℕ, ◌<◌, [], ◌∷◌, MatchOption, ◌≢◌};
+// Numbers as two decimal digits, of which stamps and the numbers of texts are made.
+ghost use Rattle.std.specs.Prelude.{◌≡◌, ℕ, ◌%◌, ◌<◌, [], ◌∷◌, MatchOption, ◌≢◌};
 ghost use Rattle.stamp.specs.Calendar.{two};
 
 // The number that two digits write, or none where a byte is no digit.
@@ -12,10 +12,9 @@ pub fn read_two(tens: u8, ones: u8) -> Option<u32>
     }
 }
 
-// Written out, as in `writer`'s four digits: once for any width would be a loop over a division, for one line here and four there.
+// The last two digits of a number.
 pub fn write_two(n: u32) -> [u8; 2]
-    requires { n < 100 }
-    ensures { result ≡ two n }
+    ensures { result ≡ two (n % 100) }
 {
-    [b'0' + (n / 10) as u8, b'0' + (n % 10) as u8]
+    [b'0' + (n / 10 % 10) as u8, b'0' + (n % 10) as u8]
 }

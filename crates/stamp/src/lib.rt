@@ -11,6 +11,7 @@ mod times;
 
 pub use civil::Stamp;
 use civil::{Day, Time};
+pub use digits::{read_two, write_two};
 use fault::{Cause, Fault, Layer};
 use std::{fmt, str};
 use times::DAY;

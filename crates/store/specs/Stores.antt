@@ -26,22 +26,26 @@ MakesStore spare n (Ok s) = Empty (n - spare) (rows_of s)
 MakesStore spare n (Err (Refused f)) = (f ≡ told Store Range) × ((spare < n) × (n ≤ 320) → ⊥)
 MakesStore spare n (Err Memory) = (spare < n) × (n ≤ 320)
 
--- the table: it may hold as many rows as it has slots, 1 to 320
+-- the table and the log by name: a table may hold as many rows as it has slots, 1 to 320
 abbrev pub Table : Type 0
 Table = EntryStore Overwrite 0
 
+-- the rows of a table
 abbrev pub table_rows : Table → Rows
 table_rows t = rows_of t
 
+-- what making a table of a number of slots answers
 abbrev pub MakesTable : ℕ → Result Table NotMade → Type 0
 MakesTable n r = MakesStore 0 n r
 
--- the log: it may hold one row less than it has entries, 2 to 320
+-- a log may hold one row less than it has entries, 2 to 320
 abbrev pub Log : Type 0
 Log = EntryStore Append 1
 
+-- the rows of a log
 abbrev pub log_rows : Log → Rows
 log_rows l = rows_of l
 
+-- what making a log of a number of entries answers
 abbrev pub MakesLog : ℕ → Result Log NotMade → Type 0
 MakesLog n r = MakesStore 1 n r

@@ -13,4 +13,4 @@ pub use entry::Key;
 pub use rows::Store;
 pub use stores::{EntryStore, Log, Table};
 pub use uses::keep;
-pub use writing::{Append, Overwrite, Supersede};
+pub use writing::{Append, Overwrite};

@@ -33,6 +33,7 @@ fn told<A: Display + Drop>(
 }
 
 // `put 3 words`, or `put 3 *n` for n bytes.
+// Words or `*n`, here and in the other table: a function that made the bytes of either would say less than it does, since it may lack memory.
 fn put<S: Store>(rt: &HostRuntime, store: &mut S, line: &str, rest: &str) -> anyhow::Result<()> {
     let (name, text) = rest.split_once(' ').unwrap_or((rest, ""));
     let answer = match text.strip_prefix("*") {

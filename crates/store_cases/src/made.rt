@@ -21,6 +21,7 @@ pub fn answer(rt: &HostRuntime, made: &mut Option<Made>, line: &str) -> anyhow::
     Ok(())
 }
 
+// One line, in each table: what it says of a text is what `parse` says.
 fn number(text: &str) -> usize {
     text.parse::<usize>().unwrap_or(0)
 }

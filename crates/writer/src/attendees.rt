@@ -1,24 +1,13 @@
 // ATTENDEE: a door's answer and its address.
 ghost use Rattle.std.specs.Prelude.{◌≡◌, ◌≤◌, length};
 ghost use Rattle.stamp.specs.Stamps.{Real};
-ghost use Rattle.property.specs.Values.{AttendeeText, Partstat, door_of, shown_text};
+ghost use Rattle.property.specs.Values.{AttendeeText, Partstat, door_of};
 ghost use Rattle.writer.specs.Ranges.{AttendeeRanged};
 ghost use Rattle.writer.specs.Writing.{HeardText};
 
 use crate::numbers::door_text;
 use crate::putting::{Text, joined};
-use property::{Answer, Attendee, Door, Heard};
-
-// The text of the answer that the site shows.
-fn shown_text(shown: Option<Answer>) -> &'static [u8]
-    ensures value { result.now ≡ shown_text shown }
-    ensures size { length result.now ≤ 12 }
-{
-    match shown {
-        None => b"NEEDS-ACTION",
-        Some(answer) => answer.name().as_bytes(),
-    }
-}
+use property::{Attendee, Door, Heard, partstat};
 
 // What the site holds of a door's answer. It asks for a stamp that is one, as the texts of stamps do.
 fn heard_text(heard: Heard) -> Text
@@ -26,7 +15,7 @@ fn heard_text(heard: Heard) -> Text
     ensures { HeardText heard result.items }
 {
     let stamp = heard.at.text();
-    joined(&[shown_text(heard.shown), b";X-REPLY=", &stamp])
+    joined(&[partstat(heard.shown).as_bytes(), b";X-REPLY=", &stamp])
 }
 
 // What stands behind `PARTSTAT=`.
@@ -36,7 +25,7 @@ fn partstat_text(attendee: Attendee) -> Text
 {
     match attendee {
         Attendee::Invited { heard, .. } => match heard {
-            None => joined(&[b"NEEDS-ACTION"]),
+            None => joined(&[partstat(None).as_bytes()]),
             Some(heard) => heard_text(heard),
         },
         Attendee::Answering { answer, .. } => joined(&[answer.name().as_bytes()]),

@@ -8,18 +8,17 @@ use crate::putting::{Text, joined};
 use itoa::Buffer;
 use property::{Door, Meeting};
 use rank::Sequence;
+use stamp::write_two;
 
-// Four digits with zeros in front. By hand: a formatter's `{:04}` hands out a result, as if there might be no room.
+// Four digits with zeros in front.
 fn four_digits(number: u16) -> [u8; 4]
     requires { number ≤ 9999 }
     ensures { result ≡ four number }
 {
-    [
-        b'0' + (number / 1000) as u8,
-        b'0' + (number / 100 % 10) as u8,
-        b'0' + (number / 10 % 10) as u8,
-        b'0' + (number % 10) as u8,
-    ]
+    let number = u32::from(number);
+    let [a, b] = write_two(number / 100);
+    let [c, d] = write_two(number);
+    [a, b, c, d]
 }
 
 // The text of UID.

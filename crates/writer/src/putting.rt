@@ -15,7 +15,7 @@ fn put<const N: usize>(text: &mut ArrayVec<u8, N>, bytes: &[u8])
     requires { length text.old.items + length bytes.now ≤ N }
     ensures { text.new.items ≡ text.old.items ++ bytes.now }
 {
-    let _fits = text.try_extend_from_slice(bytes);
+    text.try_extend_from_slice(bytes).unwrap();
 }
 
 // Puts pieces behind what stands in a text, one behind another.

@@ -12,7 +12,7 @@ use crate::stamps::{moment_text, period_text};
 use fault::Property;
 use property::{Title, Value};
 
-// A property's name, by a match to byte strings: Display writes characters, and a text is bytes.
+// A property's name. Here, and no `Display` of `Property`: that is a type of faults, which print it by its number and know no texts.
 pub(crate) fn name_text(property: Property) -> &'static [u8]
     ensures { result.now ≡ name_text property }
 {

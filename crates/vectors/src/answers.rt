@@ -1,7 +1,7 @@
 // What reading a text and writing a message answer, in words.
 use casebook::trailing_dots;
 use message::{Body, Message};
-use property::{Answer, Door, Heard, Meeting, Period};
+use property::{Door, Heard, Meeting, Period, partstat};
 use rank::Sequence;
 use stamp::Stamp;
 use std::io;
@@ -106,7 +106,7 @@ fn with_heard(body: &Body, at: Stamp) -> Body {
             dates,
         },
         Body::Cancel { .. } => Body::Cancel { heard },
-        Body::Reply { answer, basis } => Body::Reply { answer, basis },
+        other => other,
     }
 }
 
@@ -163,9 +163,4 @@ fn show_heard(rt: &HostRuntime, heard: Option<Heard>) -> io::Result<()> {
         }
         None => print!(rt; " heard none"),
     }
-}
-
-// An answer as PARTSTAT shows it.
-fn partstat(answer: Option<Answer>) -> &'static str {
-    answer.map_or("NEEDS-ACTION", Answer::name)
 }

@@ -1,5 +1,5 @@
 // The texts that the cases start from.
-use crate::parts::add_line;
+use crate::parts::text_of;
 use std::alloc::{AllocError, Global};
 
 const REQUEST: [&str; 15] = [
@@ -78,20 +78,19 @@ const REPLY: [&str; 13] = [
 
 // The text with this name, or none.
 pub fn base(heap: Global, name: &str) -> Result<Option<Vec<u8>>, AllocError> {
-    match name {
-        "empty" => Ok(Some(Vec::new(heap))),
-        "request" => Ok(Some(text_of(heap, &REQUEST)?)),
-        "request6" => Ok(Some(text_of(heap, &REQUEST6)?)),
-        "cancel" => Ok(Some(text_of(heap, &CANCEL)?)),
-        "reply" => Ok(Some(text_of(heap, &REPLY)?)),
-        _ => Ok(None),
-    }
+    let Some(lines) = lines(name) else {
+        return Ok(None);
+    };
+    Ok(Some(text_of(heap, lines)?))
 }
 
-fn text_of(heap: Global, lines: &[&str]) -> Result<Vec<u8>, AllocError> {
-    let mut text = Vec::new(heap);
-    for line in lines {
-        add_line(&mut text, line.as_bytes())?;
+fn lines(name: &str) -> Option<&'static [&'static str]> {
+    match name {
+        "empty" => Some(&[]),
+        "request" => Some(&REQUEST),
+        "request6" => Some(&REQUEST6),
+        "cancel" => Some(&CANCEL),
+        "reply" => Some(&REPLY),
+        _ => None,
     }
-    Ok(text)
 }

@@ -6,7 +6,7 @@
 use crate::answers::{read, write};
 use crate::bases::base;
 use crate::edits::edited;
-use crate::parts::{add_line, number, unescaped};
+use crate::parts::{first_word, number, text_of};
 use std::alloc::{AllocError, Global};
 
 pub fn answer(rt: &HostRuntime, line: &str) -> anyhow::Result<()> {
@@ -30,8 +30,8 @@ fn no_case(rt: &HostRuntime) -> anyhow::Result<()> {
 }
 
 fn written(rt: &HostRuntime, rest: &str) -> anyhow::Result<()> {
-    let (size, rest) = rest.split_once(' ').unwrap_or((rest, ""));
-    let (name, changes) = rest.split_once(' ').unwrap_or((rest, ""));
+    let (size, rest) = first_word(rest);
+    let (name, changes) = first_word(rest);
     match base(rt.alloc(), name)? {
         Some(text) => write(rt, number(size), text.as_slice(), changes),
         None => no_case(rt),
@@ -40,9 +40,10 @@ fn written(rt: &HostRuntime, rest: &str) -> anyhow::Result<()> {
 
 // The text that a case makes, or none where there is no such base or edit.
 fn made(heap: Global, case: &str) -> Result<Option<Vec<u8>>, AllocError> {
-    let (name, rest) = case.split_once(' ').unwrap_or((case, ""));
+    let (name, rest) = first_word(case);
     if name == "lines" {
-        return Ok(Some(text_of(heap, rest)?));
+        let lines: Vec<&str> = rest.split(" | ").collect(heap)?;
+        return Ok(Some(text_of(heap, lines.as_slice())?));
     }
     let Some(mut text) = base(heap, name)? else {
         return Ok(None);
@@ -57,12 +58,4 @@ fn made(heap: Global, case: &str) -> Result<Option<Vec<u8>>, AllocError> {
         text = next;
     }
     Ok(Some(text))
-}
-
-fn text_of(heap: Global, lines: &str) -> Result<Vec<u8>, AllocError> {
-    let mut text = Vec::new(heap);
-    for line in lines.split(" | ") {
-        add_line(&mut text, unescaped(heap, line)?.as_slice())?;
-    }
-    Ok(text)
 }

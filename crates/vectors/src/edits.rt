@@ -14,118 +14,44 @@
 // again              the text stands twice
 //
 // In LINE and BYTES, `\xHH` is the byte with these two hexadecimal digits.
-use crate::parts::{CLOSE, add_line, around, bare, cut, joined, number, unescaped};
+use crate::parts::{
+    Around, CLOSE, add_line, bare, cut, first_word, joined, number, text_of, unescaped,
+};
 use std::alloc::{AllocError, Global};
 
 // The text after an edit, or none where there is no such edit.
 pub fn edited(heap: Global, text: &[u8], edit: &str) -> Result<Option<Vec<u8>>, AllocError> {
-    let (word, rest) = edit.split_once(' ').unwrap_or((edit, ""));
-    let (n, rest) = rest.split_once(' ').unwrap_or((rest, ""));
-    let (before, line, after) = around(text, number(n));
+    let (word, rest) = first_word(edit);
+    let (n, rest) = first_word(rest);
+    let around = Around::of(text, number(n));
+    let missing = number(rest).saturating_sub(text.len());
     let made = match word {
-        "set" => many(heap, before, "1", rest, after, b""),
-        "put" => many(heap, before, "1", rest, line, after),
-        "many" => many_of(heap, before, rest, line, after),
-        "cut" => joined(heap, before, after, b"", b""),
-        "stop" => joined(heap, before, line, b"", b""),
-        "twice" => joined(heap, before, line, line, after),
-        "swap" => swap(heap, before, line, after),
-        "close" => close(heap, before, line, rest, after),
-        "pad" => pad(heap, before, line, rest, after),
-        "byte" => byte(heap, before, line, rest, after),
-        "fill" => fill(heap, text, number(n), number(rest)),
-        "again" => joined(heap, text, text, b"", b""),
+        "set" => around.set(heap, text_of(heap, &[rest])?.as_slice()),
+        "put" => around.put(heap, text_of(heap, &[rest])?.as_slice()),
+        "many" => around.put(heap, many(heap, rest)?.as_slice()),
+        "fill" => around.put(heap, fill(heap, missing)?.as_slice()),
+        "cut" => around.set(heap, b""),
+        "stop" => around.stop(heap),
+        "twice" => around.put(heap, around.line),
+        "swap" => around.swap(heap),
+        "close" => around.close(heap, unescaped(heap, rest)?.as_slice()),
+        "pad" => around.pad(heap, number(rest)),
+        "byte" => around.byte(heap, rest),
+        "again" => joined(heap, &[text, text]),
         _ => return Ok(None),
     };
     Ok(Some(made?))
 }
 
-// A line so many times.
-fn lines(heap: Global, count: usize, written: &str) -> Result<Vec<u8>, AllocError> {
-    let line = unescaped(heap, written)?;
+// `COUNT LINE`: so many such lines.
+fn many(heap: Global, rest: &str) -> Result<Vec<u8>, AllocError> {
+    let (count, line) = first_word(rest);
+    text_of(heap, vec![in heap; line; number(count)]?.as_slice())
+}
+
+// Lines `X-PAD:x..` that have so many bytes in all, none where these are fewer than 8. Each has 8 to 77 bytes with what closes it.
+fn fill(heap: Global, mut missing: usize) -> Result<Vec<u8>, AllocError> {
     let mut made = Vec::new(heap);
-    for _ in 0..count {
-        add_line(&mut made, line.as_slice())?;
-    }
-    Ok(made)
-}
-
-// So many such lines behind a text, and what follows.
-fn many(
-    heap: Global,
-    before: &[u8],
-    count: &str,
-    written: &str,
-    line: &[u8],
-    after: &[u8],
-) -> Result<Vec<u8>, AllocError> {
-    let made = lines(heap, number(count), written)?;
-    joined(heap, before, made.as_slice(), line, after)
-}
-
-// `COUNT LINE`: so many such lines before a line.
-fn many_of(
-    heap: Global,
-    before: &[u8],
-    rest: &str,
-    line: &[u8],
-    after: &[u8],
-) -> Result<Vec<u8>, AllocError> {
-    let (count, written) = rest.split_once(' ').unwrap_or((rest, ""));
-    many(heap, before, count, written, line, after)
-}
-
-// A line and the next exchanged.
-fn swap(heap: Global, before: &[u8], line: &[u8], after: &[u8]) -> Result<Vec<u8>, AllocError> {
-    let (_, next, rest) = around(after, 1);
-    joined(heap, before, next, line, rest)
-}
-
-// A line closed by other bytes.
-fn close(
-    heap: Global,
-    before: &[u8],
-    line: &[u8],
-    rest: &str,
-    after: &[u8],
-) -> Result<Vec<u8>, AllocError> {
-    let bytes = unescaped(heap, rest)?;
-    joined(heap, before, bare(line), bytes.as_slice(), after)
-}
-
-// A line with so many bytes `x` at its end.
-fn pad(
-    heap: Global,
-    before: &[u8],
-    line: &[u8],
-    count: &str,
-    after: &[u8],
-) -> Result<Vec<u8>, AllocError> {
-    let mut end = vec![in heap; b'x'; number(count)]?;
-    end.extend_from_slice(CLOSE)?;
-    joined(heap, before, bare(line), end.as_slice(), after)
-}
-
-// `K VALUE`: a line with another byte at place K, counted from 1.
-fn byte(
-    heap: Global,
-    before: &[u8],
-    line: &[u8],
-    rest: &str,
-    after: &[u8],
-) -> Result<Vec<u8>, AllocError> {
-    let (k, value) = rest.split_once(' ').unwrap_or((rest, ""));
-    let k = number(k);
-    let value = [value.parse::<u8>().unwrap_or(b'?')];
-    let front = joined(heap, before, cut(line, 0, k.saturating_sub(1)), &value, b"")?;
-    joined(heap, front.as_slice(), cut(line, k, line.len()), after, b"")
-}
-
-// The text with lines `X-PAD:x..` before line n, so that it has `total` bytes. Each such line has 8 to 77 bytes with what closes it.
-fn fill(heap: Global, text: &[u8], n: usize, total: usize) -> Result<Vec<u8>, AllocError> {
-    let (before, line, after) = around(text, n);
-    let mut made = Vec::new(heap);
-    let mut missing = total.saturating_sub(text.len());
     while missing >= 8 {
         let size = if missing <= 77 {
             missing
@@ -133,9 +59,54 @@ fn fill(heap: Global, text: &[u8], n: usize, total: usize) -> Result<Vec<u8>, Al
             (missing - 8).min(77)
         };
         made.extend_from_slice(b"X-PAD:")?;
-        made.extend_from_slice(vec![in heap; b'x'; size - 8]?.as_slice())?;
-        made.extend_from_slice(CLOSE)?;
+        add_line(&mut made, vec![in heap; b'x'; size - 8]?.as_slice())?;
         missing -= size;
     }
-    joined(heap, before, made.as_slice(), line, after)
+    Ok(made)
+}
+
+// Each edit makes a new text.
+impl Around<'_> {
+    // Other bytes in the line's place.
+    fn set(&self, heap: Global, bytes: &[u8]) -> Result<Vec<u8>, AllocError> {
+        joined(heap, &[self.before, bytes, self.after])
+    }
+
+    // Lines put in before the line.
+    fn put(&self, heap: Global, lines: &[u8]) -> Result<Vec<u8>, AllocError> {
+        joined(heap, &[self.before, lines, self.line, self.after])
+    }
+
+    // Nothing after the line.
+    fn stop(&self, heap: Global) -> Result<Vec<u8>, AllocError> {
+        joined(heap, &[self.before, self.line])
+    }
+
+    // The line and the next exchanged.
+    fn swap(&self, heap: Global) -> Result<Vec<u8>, AllocError> {
+        let next = Around::of(self.after, 1);
+        joined(heap, &[self.before, next.line, self.line, next.after])
+    }
+
+    // The line closed by other bytes.
+    fn close(&self, heap: Global, bytes: &[u8]) -> Result<Vec<u8>, AllocError> {
+        joined(heap, &[self.before, bare(self.line), bytes, self.after])
+    }
+
+    // The line with so many bytes `x` at its end.
+    fn pad(&self, heap: Global, count: usize) -> Result<Vec<u8>, AllocError> {
+        let mut end = vec![in heap; b'x'; count]?;
+        end.extend_from_slice(CLOSE)?;
+        self.close(heap, end.as_slice())
+    }
+
+    // `K VALUE`: the line with another byte at place K, counted from 1.
+    fn byte(&self, heap: Global, rest: &str) -> Result<Vec<u8>, AllocError> {
+        let (k, value) = first_word(rest);
+        let k = number(k);
+        let value = [value.parse::<u8>().unwrap_or(b'?')];
+        let front = cut(self.line, 0, k.saturating_sub(1));
+        let back = cut(self.line, k, self.line.len());
+        joined(heap, &[self.before, front, &value, back, self.after])
+    }
 }

@@ -1,10 +1,10 @@
 -- How the reading of a text goes on and ends, from what each call answers.
-use Rattle.std.proofs.Common.{◌≡◌, ℕ, ◌+◌, ◌-◌, ◌<◌, false, List, [], ◌∷◌, length, Some, None, Ok, Err, Option, Result, sym, ap, ◌∙◌, subst, arith, length-append}
+use Rattle.std.proofs.Common.{◌≡◌, ℕ, ◌+◌, ◌<◌, false, List, length, Some, None, Ok, Err, Option, Result, sym, ap, ◌∙◌, subst}
 use Rattle.fault.specs.declared.kinds.Fault.{Fault}
 use Rattle.fault.specs.Numbers.{at_line}
 use Rattle.lines.specs.declared.kinds.Line.{Line}
 use Rattle.lines.specs.declared.kinds.Lines.{Lines}
-use Rattle.lines.specs.Content.{Stands, bytes_of}
+use Rattle.lines.specs.Content.{Stands}
 use Rattle.lines.specs.Steps.{Sized, NoLine, Steps, Stays, Next, NotRead, sized, line, content_of}
 use Rattle.message.specs.declared.kinds.Message.{Message}
 use Rattle.message.specs.Grammar.{State, Step, NoStep, fault_in, frame_fault, Led, Refused, unsized, no_line, no_step, runs_out, Reads}
@@ -39,9 +39,3 @@ some_read b a o l e n = let P : Option Line → Type 0 = λ x. Next b a (Ok x) i
 
 pub none_read : (b a : Lines) (o : Option Line) → o ≡ None → Next b a (Ok o) → Sized b.text.now × (b.at ≡ length b.text.now) × Stays b a
 none_read b a o e n = let P : Option Line → Type 0 = λ x. Next b a (Ok x) in subst P e n
-
--- each line leaves less of the text
-pub falls : (text : List ℕ) (b a : Lines) (l : Line) → b.text.now ≡ text → Steps b a l → length text - a.at < length text - b.at
-falls text b a l e st =
-    let long = length-append (bytes_of (content_of l)) (13 ∷ (10 ∷ [])) in
-    omega (arith, ap length e, ap length st.same, a.within, st.stands.size, long)

@@ -77,12 +77,6 @@ behind a text status rest shown e f t =
 pub no_shown : (a : Attendee) (text status : List ℕ) → text ≡ codes ";PARTSTAT=" ++ status → ((s : Option Answer) (rest : List ℕ) → status ≡ shown_text s ++ rest → ⊥) → AttendeeText a text → ⊥
 no_shown a text status e none t = let p = parts a text t in none p.shown p.rest (cc)
 
--- behind an answer, neither a door nor a stamp
-pub no_door : (a : Attendee) (shown : Option Answer) (rest : List ℕ) → ((x : List ℕ) → rest ≡ codes ";X-REPLY=" ++ x → ⊥) → ((d : Door) → DoorText d rest → ⊥) → Behind a shown rest → ⊥
-no_door (Invited d None) shown rest plain none b = none d b.1
-no_door (Invited d (Some h)) shown rest plain none b = plain (b.1.at ++ b.1.door) b.1.written
-no_door (Answering d a) shown rest plain none b = none d b.1
-
 -- behind an answer, no stamp and door where the mark of a stamp stands
 pub no_reply : (a : Attendee) (shown : Option Answer) (rest reply : List ℕ) → rest ≡ codes ";X-REPLY=" ++ reply → ((s : Stamp) (d : Door) (at door : List ℕ) → Stamped s.seconds at → DoorText d door → reply ≡ at ++ door → ⊥) → Behind a shown rest → ⊥
 no_reply (Invited d None) shown rest reply e none b = omega (arith, first_byte (sym e ∙ b.1.written))

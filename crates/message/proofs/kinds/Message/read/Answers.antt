@@ -2,7 +2,7 @@ use Rattle.std.proofs.Common.{◌+◌, Err, ap, ◌∙◌}
 use Rattle.std.proofs.lemmas.Result.{err_from_is_err_and}
 use Rattle.message.specs.Reader.{state_of}
 use Rattle.message.proofs.Alone.{alone}
-use Rattle.message.proofs.Ending.{goes_on, falls, some_read, none_read, no_line_there, no_step_there, at_end}
+use Rattle.message.proofs.Ending.{goes_on, some_read, none_read, no_line_there, no_step_there, at_end}
 use Rattle.message.proofs.kinds.Message.read.Goals as goal
 
 pub returns-in_err-line : goal.returns-in_err-line
@@ -10,11 +10,6 @@ returns-in_err-line c =
     let p = err_from_is_err_and c.from_residual.result c.from_residual.ensures.1 in
     let refused = no_line_there c.args.text.now c.loop-line.lines (state_of c.loop-line.reading) _ c.loop-line.invariant.0 c.loop-line.invariant.1 c.in_err-line.ensures.0 in
     rw (p.1, p.2) (record { reads = refused; alone = alone c.args.text.now (Err _) refused })
-
-pub loop-line-smaller : goal.loop-line-smaller
-loop-line-smaller c =
-    let read = some_read c.loop-line.lines c.next.new.self c.in_ok-line.field-0 c.in-Some.line c.in-Some.is c.in_ok-line.ensures in
-    falls c.args.text.now c.loop-line.lines c.next.new.self c.in-Some.line c.loop-line.invariant.0 read.1
 
 pub loop-line-preserved : goal.loop-line-preserved
 loop-line-preserved c =

@@ -1,17 +1,10 @@
-use Rattle.property.proofs.Answered.{behind, no_shown, no_door, no_reply, heard_text}
+use Rattle.property.proofs.Answered.{behind, no_shown, no_reply, heard_text}
 use Rattle.property.proofs.attendees.AttendeeText.read.Goals as goal
 
 pub returns-in_err-shown : goal.returns-in_err-shown
 returns-in_err-shown c =
     rw c.from_residual-in_err-shown.ensures
     (λ a t. no_shown a _ c.in_ok-status.status.now c.in_ok-status.ensures c.in_err-shown.ensures t)
-
-pub returns-in_err-door : goal.returns-in_err-door
-returns-in_err-door c =
-    rw c.from_residual-in_err-door.ensures
-    (λ a t.
-    no_door a c.in_ok-shown.shown c.in_ok-shown.rest.now c.in_default.ensures c.in_err-door.ensures
-    (behind a _ _ _ _ c.in_ok-status.ensures c.in_ok-shown.ensures t))
 
 pub returns-in_err-at : goal.returns-in_err-at
 returns-in_err-at c =

@@ -1,4 +1,4 @@
-// The properties that each method has, and their order.
+// The text that names a method, and the properties that each has, in their order.
 ghost use Rattle.std.specs.Prelude.{◌≡◌, MatchOption, ◌≢◌};
 ghost use Rattle.message.specs.Meaning.{order, wanted, required};
 ghost use Rattle.message.specs.Names.{ReadsMethod};

@@ -16,6 +16,7 @@ impl<W: Supersede<SPARE>, const SPARE: usize> EntryStore<W, SPARE> {
     pub fn new(heap: Global, size: usize) -> Result<EntryStore<W, SPARE>, NotMade>
         ensures { MakesStore SPARE size result }
     {
+        // Two tests and no range: for a store in general SPARE + 1 may be past the last number.
         if size <= SPARE || size > 320 {
             return Err(Fault::new(Layer::Store, Cause::Range).into());
         }

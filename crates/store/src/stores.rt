@@ -8,6 +8,7 @@ use crate::writing::{Append, Overwrite};
 use std::marker::PhantomData;
 
 // A store of up to `capacity` rows, in entries of which SPARE more stay free for a row's successor.
+// Its bounds are stated here and for a carrier's row: a vector of both would be a crate for three clauses.
 // SPARE stands beside W, which settles it: the invariants count with it, and as a constant of W they would need a bound on the type and on each definition over it.
 #[derive(Drop)]
 pub struct EntryStore<W, const SPARE: usize> {

@@ -1,5 +1,5 @@
 // What reading a text and writing a message answer, in words.
-use casebook::trailing_dots;
+use casebook::{Copied, trailing_dots};
 use message::{Body, Message};
 use property::{Door, Heard, Meeting, Period, partstat};
 use rank::Sequence;
@@ -57,9 +57,12 @@ pub fn write(rt: &HostRuntime, size: usize, text: &[u8], changes: &str) -> anyho
     }
     match writer::write(&message, buffer.as_mut_slice()) {
         Ok(length) => reread(rt, buffer.as_slice(), length),
-        Err(fault) => {
-            let dots = trailing_dots(buffer.as_slice());
-            println!(rt; "{fault}, {dots} dots")?;
+        refused => {
+            let copied = Copied {
+                result: refused,
+                buffer: buffer.as_slice(),
+            };
+            println!(rt; "{copied}")?;
             Ok(())
         }
     }

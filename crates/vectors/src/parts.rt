@@ -96,7 +96,7 @@ pub fn first_word(text: &str) -> (&str, &str) {
     text.split_once(' ').unwrap_or((text, ""))
 }
 
-// A number in decimal, 0 where it is none.
+// A number in decimal, 0 where it is none. One line, in each table: what it says of a text is what `parse` says.
 pub fn number(text: &str) -> usize {
     text.parse::<usize>().unwrap_or(0)
 }

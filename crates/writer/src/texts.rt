@@ -28,6 +28,7 @@ pub fn write(message: &Message, buffer: &mut [u8]) -> Result<usize, Fault>
         return Err(Fault::new(Layer::Framing, Cause::Short));
     }
     let text = house_text(message).ok_or(Fault::new(Layer::Framing, Cause::Range))?;
+    // Two lines, as for a letter and for a row: a function for all would be a crate for it.
     let length = text.len();
     buffer[..length].copy_from_slice(&text);
     Ok(length)

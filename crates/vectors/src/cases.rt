@@ -6,7 +6,7 @@
 use crate::answers::{read, write};
 use crate::bases::base;
 use crate::edits::edited;
-use crate::parts::{first_word, number, text_of};
+use crate::parts::{closed_line, first_word, number};
 use std::alloc::{AllocError, Global};
 
 pub fn answer(rt: &HostRuntime, line: &str) -> anyhow::Result<()> {
@@ -42,8 +42,7 @@ fn written(rt: &HostRuntime, rest: &str) -> anyhow::Result<()> {
 fn made(heap: Global, case: &str) -> Result<Option<Vec<u8>>, AllocError> {
     let (name, rest) = first_word(case);
     if name == "lines" {
-        let lines: Vec<&str> = rest.split(" | ").collect(heap)?;
-        return Ok(Some(text_of(heap, lines.as_slice())?));
+        return Ok(Some(lines(heap, rest)?));
     }
     let Some(mut text) = base(heap, name)? else {
         return Ok(None);
@@ -58,4 +57,13 @@ fn made(heap: Global, case: &str) -> Result<Option<Vec<u8>>, AllocError> {
         text = next;
     }
     Ok(Some(text))
+}
+
+// The text of lines as a case writes them, one after another.
+fn lines(heap: Global, rest: &str) -> Result<Vec<u8>, AllocError> {
+    let mut text = Vec::new(heap);
+    for line in rest.split(" | ") {
+        text.extend_from_slice(closed_line(heap, line)?.as_slice())?;
+    }
+    Ok(text)
 }

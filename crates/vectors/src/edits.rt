@@ -15,7 +15,7 @@
 //
 // In LINE and BYTES, `\xHH` is the byte with these two hexadecimal digits.
 use crate::parts::{
-    Around, CLOSE, add_line, bare, cut, first_word, joined, number, text_of, unescaped,
+    Around, CLOSE, add_line, bare, closed_line, cut, first_word, joined, number, unescaped,
 };
 use std::alloc::{AllocError, Global};
 
@@ -26,8 +26,8 @@ pub fn edited(heap: Global, text: &[u8], edit: &str) -> Result<Option<Vec<u8>>, 
     let around = Around::of(text, number(n));
     let missing = number(rest).saturating_sub(text.len());
     let made = match word {
-        "set" => around.set(heap, text_of(heap, &[rest])?.as_slice()),
-        "put" => around.put(heap, text_of(heap, &[rest])?.as_slice()),
+        "set" => around.set(heap, closed_line(heap, rest)?.as_slice()),
+        "put" => around.put(heap, closed_line(heap, rest)?.as_slice()),
         "many" => around.put(heap, many(heap, rest)?.as_slice()),
         "fill" => around.put(heap, fill(heap, missing)?.as_slice()),
         "cut" => around.set(heap, b""),
@@ -46,7 +46,12 @@ pub fn edited(heap: Global, text: &[u8], edit: &str) -> Result<Option<Vec<u8>>, 
 // `COUNT LINE`: so many such lines.
 fn many(heap: Global, rest: &str) -> Result<Vec<u8>, AllocError> {
     let (count, line) = first_word(rest);
-    text_of(heap, vec![in heap; line; number(count)]?.as_slice())
+    let line = closed_line(heap, line)?;
+    let mut made = Vec::new(heap);
+    for _ in 0..number(count) {
+        made.extend_from_slice(line.as_slice())?;
+    }
+    Ok(made)
 }
 
 // Lines `X-PAD:x..` that have so many bytes in all, none where these are fewer than 8. Each has 8 to 77 bytes with what closes it.

@@ -11,12 +11,19 @@ pub fn add_line(text: &mut Vec<u8>, line: &[u8]) -> Result<(), AllocError> {
     text.extend_from_slice(CLOSE)
 }
 
-// The text of these lines, each as a case writes it.
+// The text of these lines, as they stand.
 pub fn text_of(heap: Global, lines: &[&str]) -> Result<Vec<u8>, AllocError> {
     let mut text = Vec::new(heap);
     for line in lines {
-        add_line(&mut text, unescaped(heap, line)?.as_slice())?;
+        add_line(&mut text, line.as_bytes())?;
     }
+    Ok(text)
+}
+
+// The text of a line as a case writes it.
+pub fn closed_line(heap: Global, line: &str) -> Result<Vec<u8>, AllocError> {
+    let mut text = unescaped(heap, line)?;
+    text.extend_from_slice(CLOSE)?;
     Ok(text)
 }
 

@@ -5,7 +5,7 @@
 mod arrivals;
 mod door;
 
-use anyhow::Context;
+use anyhow::anyhow;
 use carrier::{Fates, Plan, Ring, Stack};
 use door::Door;
 use fault::NotMade;
@@ -19,14 +19,14 @@ const DAMAGED: &str = "1 20250229T120000Z";
 
 fn main(rt: HostRuntime) -> anyhow::Result<()> {
     let heap = rt.alloc();
-    let mut stack = Stack::new(heap, 4).context("the stack was not made")?;
-    let log = Log::new(heap, 8).context("the log was not made")?;
+    let mut stack = Stack::new(heap, 4).map_err(|_| anyhow!("the stack was not made"))?;
+    let log = Log::new(heap, 8).map_err(|_| anyhow!("the log was not made"))?;
     let mut door = Door::new(heap, log)?;
     println!(rt; "Wednesday, by a relay that hands out the latest first:")?;
     door.send(&rt, &mut stack, FIRST)?;
     door.send(&rt, &mut stack, SECOND)?;
     door.take_all(&rt, &mut stack)?;
-    let mut fates = lossy(&rt).context("the fates layer was not made")?;
+    let mut fates = lossy(&rt).map_err(|_| anyhow!("the fates layer was not made"))?;
     println!(rt;
         "Thursday, by a relay that doubles the first text, loses the second and carries the third:"
     )?;

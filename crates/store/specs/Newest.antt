@@ -10,12 +10,12 @@ use Rattle.store.specs.Rows.{Keyed, bytes_of, Gets}
 use Rattle.store.specs.Entries.{bytes_in, later, says, row_in, key_at, Newest, Obsolete, Wrote}
 
 -- an entry by its place
-key_there : (key : ℕ) (es : List Entry) (p : ℕ) → p < length es → HoldsAt (λ e. e.key ≡ key) es p → key_at key es p ≡ true
+pub key_there : (key : ℕ) (es : List Entry) (p : ℕ) → p < length es → HoldsAt (λ e. e.key ≡ key) es p → key_at key es p ≡ true
 key_there key [] p l h = absurd (omega arith)
 key_there key (x ∷ es) zero l h = let e : x.key ≡ key = h x in grind (arith, nat_tests)
 key_there key (x ∷ es) (suc p) l h = key_there key es p (omega arith) h
 
-key_absent : (key : ℕ) (es : List Entry) (p : ℕ) → (p < length es → HoldsAt (λ e. e.key ≢ key) es p) → key_at key es p ≡ false
+pub key_absent : (key : ℕ) (es : List Entry) (p : ℕ) → (p < length es → HoldsAt (λ e. e.key ≢ key) es p) → key_at key es p ≡ false
 key_absent key [] p h = refl
 key_absent key (x ∷ es) zero h = let ne : x.key ≢ key = h (omega arith) x in grind (arith, nat_tests)
 key_absent key (x ∷ es) (suc p) h = key_absent key es p (λ l. h (omega arith))

@@ -26,26 +26,28 @@ MakesStore spare n (Ok s) = Empty (n - spare) (rows_of s)
 MakesStore spare n (Err (Refused f)) = (f ≡ told Store Range) × ((spare < n) × (n ≤ 320) → ⊥)
 MakesStore spare n (Err Memory) = (spare < n) × (n ≤ 320)
 
--- the table and the log by name: a table may hold as many rows as it has slots, 1 to 320
+-- a table may hold as many rows as it has slots
 abbrev pub Table : Type 0
 Table = EntryStore Overwrite 0
 
--- the rows of a table
 abbrev pub table_rows : Table → Rows
 table_rows t = rows_of t
 
--- what making a table of a number of slots answers
-abbrev pub MakesTable : ℕ → Result Table NotMade → Type 0
-MakesTable n r = MakesStore 0 n r
-
--- a log may hold one row less than it has entries, 2 to 320
+-- a log may hold one row less than it has entries
 abbrev pub Log : Type 0
 Log = EntryStore Append 1
 
--- the rows of a log
 abbrev pub log_rows : Log → Rows
 log_rows l = rows_of l
 
+-- what making a table of a number of slots answers
+abbrev pub MakesTable : {W : Type 0} {spare : ℕ} → ℕ → Result (EntryStore W spare) NotMade → Type 0
+MakesTable n (Ok t) = Empty n (rows_of t)
+MakesTable n (Err (Refused f)) = (f ≡ told Store Range) × ((1 ≤ n) × (n ≤ 320) → ⊥)
+MakesTable n (Err Memory) = (1 ≤ n) × (n ≤ 320)
+
 -- what making a log of a number of entries answers
-abbrev pub MakesLog : ℕ → Result Log NotMade → Type 0
-MakesLog n r = MakesStore 1 n r
+abbrev pub MakesLog : {W : Type 0} {spare : ℕ} → ℕ → Result (EntryStore W spare) NotMade → Type 0
+MakesLog n (Ok l) = Empty (n - 1) (rows_of l)
+MakesLog n (Err (Refused f)) = (f ≡ told Store Range) × ((2 ≤ n) × (n ≤ 320) → ⊥)
+MakesLog n (Err Memory) = (2 ≤ n) × (n ≤ 320)

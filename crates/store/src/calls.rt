@@ -1,11 +1,11 @@
 // The store over entries: made, and called.
-ghost use Rattle.store.specs.Stores.{rows_of, MakesStore};
+ghost use Rattle.store.specs.Stores.{rows_of, MakesStore, MakesTable, MakesLog};
 ghost use Rattle.store.specs.Keeping.{entries_sound};
 
 use crate::entries::{find, get_from};
 use crate::entry::{Entry, Key};
 use crate::rows::Store;
-use crate::stores::EntryStore;
+use crate::stores::{EntryStore, Log, Table};
 use crate::writing::{Supersede, add};
 use fault::{Cause, Fault, Layer, NotMade};
 use std::alloc::Global;
@@ -13,7 +13,7 @@ use std::marker::PhantomData;
 
 impl<W: Supersede<SPARE>, const SPARE: usize> EntryStore<W, SPARE> {
     // An empty store of SPARE + 1 to 320 entries, whose memory is taken here.
-    pub fn new(heap: Global, size: usize) -> Result<EntryStore<W, SPARE>, NotMade>
+    pub fn of(heap: Global, size: usize) -> Result<EntryStore<W, SPARE>, NotMade>
         ensures { MakesStore SPARE size result }
     {
         // Two tests and no range: for a store in general SPARE + 1 may be past the last number.
@@ -26,6 +26,24 @@ impl<W: Supersede<SPARE>, const SPARE: usize> EntryStore<W, SPARE> {
             capacity: size - SPARE,
             way: PhantomData,
         })
+    }
+}
+
+impl Table {
+    // An empty table of 1 to 320 slots, whose memory is taken here.
+    pub fn new(heap: Global, slots: usize) -> Result<Table, NotMade>
+        ensures { MakesTable slots result }
+    {
+        EntryStore::of(heap, slots)
+    }
+}
+
+impl Log {
+    // An empty log of 2 to 320 entries, whose memory is taken here.
+    pub fn new(heap: Global, size: usize) -> Result<Log, NotMade>
+        ensures { MakesLog size result }
+    {
+        EntryStore::of(heap, size)
     }
 }
 

@@ -3,7 +3,7 @@ use Rattle.store.specs.declared.entry.Entry.{Entry}
 use Rattle.store.specs.Rows.{held_in}
 use Rattle.store.specs.Entries.{row_in}
 use Rattle.store.specs.Held.{none_held}
-use Rattle.store.proofs.stores.EntryStore.new.Goals as goal
+use Rattle.store.proofs.stores.EntryStore.of.Goals as goal
 
 pub invariant_of-result : goal.invariant_of-result
 invariant_of-result g c =

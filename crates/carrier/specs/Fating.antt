@@ -29,7 +29,7 @@ unfaithful_takes Carried l before after fit room t = record { fit = fit; room = 
 unfaithful_takes Doubled l before after fit room t = let s = second_post l t.0 after t.1 t.3 in record { fit = fit; room = room; capacity = s.0 ∙ t.2.capacity; faithful = refl; among = among_twice l before.waiting t.0.waiting after.waiting t.2.among s.1; exact = λ no. absurd (grind arith) }
 
 -- a digit that is no fate's is in no plan
-no_plan : (digits : List ℕ) (i : ℕ) → i < length digits → ((f : Fate) → slice_index digits i ≢ digit_of f) → (fates : List Fate) → digits ≢ map digit_of fates
+pub no_plan : (digits : List ℕ) (i : ℕ) → i < length digits → ((f : Fate) → slice_index digits i ≢ digit_of f) → (fates : List Fate) → digits ≢ map digit_of fates
 no_plan digits i h none fates e =
     let long : length digits ≡ length fates = ap length e ∙ length-map fates digit_of in
     none (slice_index_or fates i Lost) (ap (λ (ds : List ℕ). slice_index ds i) e ∙ get_or-map digit_of fates i Lost 0 (omega arith))

@@ -33,7 +33,7 @@ for_another to [] k h = refl
 for_another to (s ∷ ss) zero h = let ne : s.to.number ≢ to = h (omega arith) s in grind (arith, nat_tests)
 for_another to (s ∷ ss) (suc k) h = for_another to ss k (λ l. h (omega arith))
 
-for_read : (to : ℕ) (ss : List Slot) (k : ℕ) (s : Slot) → k < length ss → s ≡ slice_index_or ss k s → for_at to (map letter_in ss) k ≡ (s.to.number == to)
+pub for_read : (to : ℕ) (ss : List Slot) (k : ℕ) (s : Slot) → k < length ss → s ≡ slice_index_or ss k s → for_at to (map letter_in ss) k ≡ (s.to.number == to)
 for_read to [] k s h e = absurd (omega arith)
 for_read to (x ∷ ss) zero s h e = ap (λ (y : Slot). nat_eq y.to.number to) (sym e)
 for_read to (x ∷ ss) (suc k) s h e = for_read to ss k s (omega arith) e

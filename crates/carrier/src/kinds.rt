@@ -14,11 +14,11 @@ pub struct Address {
     pub number: u8,
 }
 
-// A place that holds one letter.
+// A place that holds one letter. The text stands first: a letter is then moved into the row by one copy.
 #[derive(Drop)]
 pub struct Slot {
-    pub(crate) to: Address,
     pub(crate) text: ArrayVec<u8, LONGEST>,
+    pub(crate) to: Address,
     ghost address: { to.number ≤ 8 },
     ghost some: { (1 ≤ array_vec_len text) × (array_vec_len text ≤ 768) },
 }

@@ -11,10 +11,9 @@ impl Slot {
         requires { Fit (letter to.number text.now) }
         ensures { letter_in result ≡ letter to.number text.now }
     {
-        Slot {
-            to,
-            text: ArrayVec::try_from(text).unwrap(),
-        }
+        let mut bytes = ArrayVec::new();
+        bytes.try_extend_from_slice(text).unwrap();
+        Slot { text: bytes, to }
     }
 
     // Copies the text to the front of the buffer, keeps the buffer's rest, and tells the length.

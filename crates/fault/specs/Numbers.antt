@@ -1,5 +1,5 @@
 -- The numbers by which faults, layers and properties are known in formats and documents, and the layer to which a fault belongs.
-use Rattle.std.specs.Prelude.{ℕ, Some, None, Option}
+use Rattle.std.specs.Prelude.{ℕ, cond, Some, None, Option, ◌==◌}
 use Rattle.fault.specs.declared.kinds.Cause.{Cause}
 use Rattle.fault.specs.declared.kinds.Cause.TheVariants.{Line, Frame, Method, Malformed, Misdirected, Unknown, Stale, Ahead, Dates, Range, Taken, Over, Spent, StoreFull, CarrierFull, Short, NoMail, Unfinished, NoAnswer, Unreadable}
 use Rattle.fault.specs.declared.kinds.Layer.{Layer}
@@ -79,9 +79,13 @@ layer_for tester Unreadable = Engine
 abbrev pub told : Layer → Cause → Fault
 told tester cause = record { cause = cause; layer = layer_for tester cause; line = None; property = None }
 
+-- the line that a number names: lines count from 1, and 0 names none
+abbrev pub line_named : ℕ → Option ℕ
+line_named n = cond (n == 0) None (Some n)
+
 -- the same fault, at a line of a text
 abbrev pub at_line : Fault → ℕ → Fault
-at_line f n = record { cause = f.cause; layer = f.layer; line = Some n; property = f.property }
+at_line f n = record { cause = f.cause; layer = f.layer; line = line_named n; property = f.property }
 
 -- the same fault, where a property was wanted, or none might stand
 abbrev pub wanting : Fault → Option Property → Fault

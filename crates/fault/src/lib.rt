@@ -28,12 +28,12 @@ impl Fault {
         }
     }
 
-    // The same fault, at a line of a text.
+    // The same fault, at a line of a text; lines count from 1, and 0 stands for none.
     pub fn at_line(self, line: u32) -> Fault
         ensures { result ≡ at_line self line }
     {
         Fault {
-            line: Some(line),
+            line: (line != 0).then_some(line),
             ..self
         }
     }

@@ -128,7 +128,7 @@ whole msg n front now all b is =
 abbrev close : List ℕ
 close = 13 ∷ (10 ∷ [])
 
-pub head_is : (m : Method) (name : List ℕ) → name ≡ method_name m → (codes "BEGIN:VCALENDAR" ++ close) ++ ((codes "VERSION:2.0" ++ close) ++ ((codes "PRODID:-//DOORS//ITIP 1//EN" ++ close) ++ (codes "METHOD:" ++ (name ++ (close ++ ((codes "BEGIN:VEVENT" ++ close) ++ [])))))) ≡ flat_map closed (head m)
+pub head_is : (m : Method) (name : List ℕ) → name ≡ method_name m → ((codes "BEGIN:VCALENDAR" ++ close) ++ ((codes "VERSION:2.0" ++ close) ++ ((codes "PRODID:-//DOORS//ITIP 1//EN" ++ close) ++ codes "METHOD:"))) ++ (name ++ ((close ++ (codes "BEGIN:VEVENT" ++ close)) ++ [])) ≡ flat_map closed (head m)
 head_is Request name e = rw e refl
 head_is Cancel name e = rw e refl
 head_is Reply name e = rw e refl

@@ -5,11 +5,11 @@ use Rattle.fault.specs.declared.kinds.Cause.TheVariants.{Short, Range}
 use Rattle.fault.specs.declared.kinds.Fault.{Fault}
 use Rattle.fault.specs.declared.kinds.Layer.TheVariants.{Framing}
 use Rattle.fault.specs.Numbers.{told}
-use Rattle.lines.specs.Content.{Content}
+use Rattle.lines.specs.Content.{Content, closed}
 use Rattle.fault.specs.declared.kinds.Property.{Property}
 use Rattle.property.specs.declared.kinds.Value.{Value}
 use Rattle.property.specs.declared.kinds.Heard.{Heard}
-use Rattle.property.specs.Values.{Part, property_of, part_of, Says, ReplyText, shown_text}
+use Rattle.property.specs.Values.{Part, name_text, property_of, part_of, Says, ReplyText, shown_text}
 use Rattle.message.specs.declared.kinds.Message.{Message}
 use Rattle.message.specs.declared.kinds.Method.{Method}
 use Rattle.message.specs.Names.{method_text}
@@ -43,6 +43,14 @@ foot = frame (codes "END") (codes ":VEVENT") ∷ (frame (codes "END") (codes ":V
 -- the answer that the site shows, and the stamp of the REPLY
 abbrev pub HeardText : Heard → List ℕ → Type 0
 HeardText h text = (reply : List ℕ) × ReplyText h.at reply × (text ≡ shown_text h.shown ++ reply)
+
+-- what a text has behind what stood there: bytes of which something holds
+abbrev pub Puts : (List ℕ → Type 0) → List ℕ → List ℕ → Type 0
+Puts Says old new = (said : List ℕ) × Says said × (new ≡ old ++ said)
+
+-- the line of a part: its property's name, a text of the part, and CR LF
+abbrev pub LineOf : Part → List ℕ → Type 0
+LineOf p line = (said : List ℕ) × Says p said × (line ≡ closed (record { name = name_text (property_of p); text = said }))
 
 -- what writing the text of a part answers: a text of it, or none where it is out of its range
 abbrev pub TextOf : Part → Option (ArrayVec ℕ) → Type 0

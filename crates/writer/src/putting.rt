@@ -11,7 +11,7 @@ pub(crate) const WIDEST: usize = 64;
 pub(crate) type Text = ArrayVec<u8, WIDEST>;
 
 // Puts bytes behind what stands in a text.
-fn put<const N: usize>(text: &mut ArrayVec<u8, N>, bytes: &[u8])
+pub(crate) fn put<const N: usize>(text: &mut ArrayVec<u8, N>, bytes: &[u8])
     requires { length text.old.items + length bytes.now ≤ N }
     ensures { text.new.items ≡ text.old.items ++ bytes.now }
 {

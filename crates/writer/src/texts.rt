@@ -1,14 +1,18 @@
 // Whole texts: the frame, and the properties of a message in their order.
-ghost use Rattle.std.specs.Prelude.{◌≡◌, ◌+◌, ◌≤◌, ◌++◌, [], length};
+ghost use Rattle.std.specs.Prelude.{◌≡◌, ◌+◌, ◌≤◌, ◌++◌, [], length, option_map};
 ghost use Rattle.std.specs.List.{flat_map};
 ghost use Rattle.lines.specs.Content.{closed};
-ghost use Rattle.writer.specs.Writing.{head, foot, HouseText, Writes};
+ghost use Rattle.property.specs.Values.{part_of};
+ghost use Rattle.writer.specs.Ranges.{Ranged};
+ghost use Rattle.writer.specs.Writing.{head, foot, HouseText, LineOf, Puts, Writes};
 
-use crate::putting::{joined, put_all};
-use crate::values::{name_text, value_text};
+use crate::putting::{put, put_all};
+use crate::ranges::is_ranged;
+use crate::values::{name_text, put_ranged};
 use arrayvec::ArrayVec;
 use fault::{Cause, Fault, Layer};
 use message::{Message, Method};
+use property::Value;
 
 // The longest text, and the shortest buffer that is written to.
 const LONGEST: usize = 768;
@@ -27,40 +31,44 @@ pub fn write(message: &Message, buffer: &mut [u8]) -> Result<usize, Fault>
     if buffer.len() < LONGEST {
         return Err(Fault::new(Layer::Framing, Cause::Short));
     }
-    let text = house_text(message).ok_or(Fault::new(Layer::Framing, Cause::Range))?;
+    let mut text = ArrayVec::new();
+    put_house(&mut text, message).ok_or(Fault::new(Layer::Framing, Cause::Range))?;
     // Two lines, as for a letter and for a row: a function for all would be a crate for it.
     let length = text.len();
     buffer[..length].copy_from_slice(&text);
     Ok(length)
 }
 
-// The one house text of a message, or none where a value is out of its range.
-fn house_text(message: &Message) -> Option<House>
-    ensures { HouseText message.now result }
+// Puts the one house text of a message into an empty text, or tells none where a value is out of its range.
+fn put_house(text: &mut House, message: &Message) -> Option<()>
+    requires { text.old.items ≡ [] }
+    ensures { HouseText message.now (option_map (λ _. text.new) result) }
 {
-    let mut text = head_text(message.method());
+    put_head(text, message.method());
     for value in (0..MOST).map_while(|place| message.value(place)) {
-        let said = value_text(&value)?;
-        put_line(&mut text, name_text(value.property()), &said);
+        if !is_ranged(&value) {
+            return None;
+        }
+        put_value(text, &value);
     }
-    put_foot(&mut text);
-    Some(text)
+    put_foot(text);
+    Some(())
 }
 
-// The lines before the properties.
-fn head_text(method: Method) -> House
-    ensures value { result.items ≡ flat_map closed (head method) }
-    ensures size { length result.items ≤ 89 }
+// Puts the lines before the properties.
+fn put_head(text: &mut House, method: Method)
+    requires { text.old.items ≡ [] }
+    ensures value { text.new.items ≡ flat_map closed (head method) }
+    ensures size { length text.new.items ≤ 89 }
 {
-    joined(&[
-        b"BEGIN:VCALENDAR\r\n",
-        b"VERSION:2.0\r\n",
-        b"PRODID:-//DOORS//ITIP 1//EN\r\n",
-        b"METHOD:",
-        method.name().as_bytes(),
-        b"\r\n",
-        b"BEGIN:VEVENT\r\n",
-    ])
+    put_all(
+        text,
+        &[
+            b"BEGIN:VCALENDAR\r\nVERSION:2.0\r\nPRODID:-//DOORS//ITIP 1//EN\r\nMETHOD:",
+            method.name().as_bytes(),
+            b"\r\nBEGIN:VEVENT\r\n",
+        ],
+    );
 }
 
 // Puts the lines behind them.
@@ -71,10 +79,13 @@ fn put_foot(text: &mut House)
     put_all(text, &[b"END:VEVENT\r\n", b"END:VCALENDAR\r\n"]);
 }
 
-// Puts a line: its name, its text from the separator on, and CR LF.
-fn put_line(text: &mut House, name: &[u8], said: &[u8])
-    requires { length text.old.items + (length name.now + length said.now + 2) ≤ 768 }
-    ensures { text.new.items ≡ text.old.items ++ closed (record { name = name.entry.now; text = said.now }) }
+// Puts the line of a value: its property's name, its text, and CR LF.
+fn put_value(text: &mut House, value: &Value)
+    requires room { length text.old.items + 77 ≤ 768 }
+    requires ranged { Ranged (part_of value.now) }
+    ensures { Puts (LineOf (part_of value.now)) text.old.items text.new.items }
 {
-    put_all(text, &[name, said, b"\r\n"]);
+    put(text, name_text(value.property()));
+    put_ranged(text, value);
+    put(text, b"\r\n");
 }

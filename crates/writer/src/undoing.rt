@@ -27,6 +27,7 @@ pub fn rewrite(text: &[u8], buffer: &mut [u8]) -> Result<usize, Fault>
 }
 
 // Writes the text of a property and reads it back: the same value, or none where it is out of its range.
+#[tactic(auto, using(crate::proofs::Undone::value_read_back))]
 pub fn reread_value(value: &Value) -> Option<Value>
     ensures { RereadsValue (part_of value.now) result }
 {
@@ -35,6 +36,7 @@ pub fn reread_value(value: &Value) -> Option<Value>
 }
 
 // Reads the text of a property and writes it back: the same bytes, or none where the property never has this text.
+#[tactic(auto, using(crate::proofs::Undone::value_written_back))]
 pub fn rewrite_value(property: Property, text: &[u8]) -> Option<ArrayVec<u8, WIDEST>>
     ensures { RewritesValue property text.now result }
 {

@@ -1,14 +1,15 @@
 // The lines of values: a property's name, and the text of its value.
-ghost use Rattle.std.specs.Prelude.{◌≡◌};
+ghost use Rattle.std.specs.Prelude.{◌≡◌, ◌+◌, ◌≤◌, length};
 ghost use Rattle.property.specs.Values.{part_of, name_text, title_text, TitleText, Says, summary};
 ghost use Rattle.writer.specs.Ranges.{Ranged};
-ghost use Rattle.writer.specs.Writing.{TextOf};
+ghost use Rattle.writer.specs.Writing.{TextOf, Puts};
 
 use crate::attendees::attendee_text;
 use crate::numbers::{meeting_text, sequence_text};
-use crate::putting::{Text, joined};
+use crate::putting::{Text, joined, put};
 use crate::ranges::is_ranged;
-use crate::stamps::{moment_text, period_text};
+use crate::stamps::{put_moment, put_period};
+use arrayvec::ArrayVec;
 use fault::Property;
 use property::{Title, Value};
 
@@ -43,16 +44,27 @@ fn ranged_text(value: &Value) -> Text
     requires { Ranged (part_of value.now) }
     ensures { Says (part_of value.now) result.items }
 {
+    let mut text = ArrayVec::new();
+    put_ranged(&mut text, value);
+    text
+}
+
+// Puts the text of a value that is in its range behind what stands in a text.
+pub(crate) fn put_ranged<const N: usize>(text: &mut ArrayVec<u8, N>, value: &Value)
+    requires room { length text.old.items + 64 ≤ N }
+    requires ranged { Ranged (part_of value.now) }
+    ensures { Puts (Says (part_of value.now)) text.old.items text.new.items }
+{
     match *value {
-        Value::Uid(meeting) => meeting_text(meeting),
+        Value::Uid(meeting) => put(text, &meeting_text(meeting)),
         Value::Dtstamp(stamp) | Value::Dtstart(stamp) | Value::Dtend(stamp) | Value::Basis(stamp) =>
-            moment_text(stamp),
-        Value::Sequence(sequence) => sequence_text(sequence),
-        Value::Organizer => joined(&[b":mailto:site@doors"]),
-        Value::Attendee(attendee) => attendee_text(attendee),
-        Value::Summary(title) => summary_text(&title),
-        Value::Rdate(period) => period_text(period),
-        Value::Status => joined(&[b":CANCELLED"]),
+            put_moment(text, stamp),
+        Value::Sequence(sequence) => put(text, &sequence_text(sequence)),
+        Value::Organizer => put(text, b":mailto:site@doors"),
+        Value::Attendee(attendee) => put(text, &attendee_text(attendee)),
+        Value::Summary(title) => put(text, &summary_text(&title)),
+        Value::Rdate(period) => put_period(text, period),
+        Value::Status => put(text, b":CANCELLED"),
     }
 }
 

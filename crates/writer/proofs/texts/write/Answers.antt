@@ -1,4 +1,4 @@
-use Rattle.std.proofs.Common.{◌≡◌, ◌++◌, ◌≤◌, ℕ, true, List, length, drop, sym, subst, arith}
+use Rattle.std.proofs.Common.{◌≡◌, ◌++◌, ◌≤◌, ℕ, true, List, length, drop, option_map, Option, sym, subst, arith}
 use Rattle.std.proofs.lemmas.List.{take_at, drop_at}
 use Rattle.message.specs.declared.kinds.Message.{Message}
 use Rattle.message.specs.Grammar.{Means}
@@ -18,5 +18,6 @@ writ m old text n long means size = record {
 
 pub returns : goal.returns
 returns c =
-    let means = subst (HouseText c.args.message.now) c.in_ok-text.ensures.ok_part c.house_text.ensures in
-    rw (c.copy_from_slice.ensures.after, c.deref.ensures.0) (writ c.args.message.now c.args.buffer.now c.in_ok-text.text.items c.len-length.result c.if-buffer-lt-LONGEST.false means c.len-length.ensures.value)
+    let text = c.put_house.new.text in
+    let means = subst (λ (put : Option (Unit {0})). HouseText c.args.message.now (option_map (λ _. text) put)) c.in_ok-ok_or.ensures.ok_part c.put_house.ensures in
+    rw (c.copy_from_slice.ensures.after, c.deref.ensures.0) (writ c.args.message.now c.args.buffer.now text.items c.len-length.result c.if-buffer-lt-LONGEST.false means c.len-length.ensures.value)

@@ -1,6 +1,6 @@
 use Rattle.std.proofs.Common.{◌≡◌}
 use Rattle.writer.proofs.Written.{Begun}
-use Rattle.writer.proofs.texts.house_text.Given as goal
+use Rattle.writer.proofs.texts.put_house.Given as goal
 
 abbrev pub invariant-loop-value : goal.invariant-loop-value
 invariant-loop-value l = record {

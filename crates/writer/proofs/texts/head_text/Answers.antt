@@ -1,6 +1,0 @@
-use Rattle.std.proofs.Common.{◌∙◌}
-use Rattle.writer.proofs.Written.{head_is}
-use Rattle.writer.proofs.texts.head_text.Goals as goal
-
-pub returns-clause-value : goal.returns-clause-value
-returns-clause-value c = c.joined.ensures ∙ head_is c.args.method _ (c.as_bytes.ensures.value ∙ c.name.ensures.value)

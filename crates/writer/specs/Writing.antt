@@ -46,7 +46,7 @@ HeardText h text = (reply : List ℕ) × ReplyText h.at reply × (text ≡ shown
 
 -- what a text has behind what stood there: bytes of which something holds
 abbrev pub Puts : (List ℕ → Type 0) → List ℕ → List ℕ → Type 0
-Puts Says old new = (said : List ℕ) × Says said × (new ≡ old ++ said)
+Puts P old new = (said : List ℕ) × P said × (new ≡ old ++ said)
 
 -- the line of a part: its property's name, a text of the part, and CR LF
 abbrev pub LineOf : Part → List ℕ → Type 0
